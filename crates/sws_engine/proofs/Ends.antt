@@ -5,10 +5,8 @@ pub mod ConcludeLemmas
 pub mod SeatsOfRunLemmas
 pub mod ConcludedLemmas
 pub mod LogTurnsLemmas
-pub mod RunLeftLemmas
-pub mod NeverApartLemmas
+pub mod HasRunLemmas
 pub mod ThreadLemmas
-pub mod AloneLemmas
 pub mod InitialServedLemmas
 pub mod HandedLemmas
 pub mod HandledLemmas

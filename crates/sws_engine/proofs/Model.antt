@@ -1,3 +1,5 @@
+pub mod Agrees
+pub mod Placed
 pub mod HandlesLemmas
 pub mod ToldLemmas
 pub mod FirstLemmas

@@ -6,7 +6,7 @@ use Rattle.sws_link.specs.Links.{LinkContents}
 use Rattle.sws_link.specs.Scripts.{Script}
 use Rattle.sws_steps.specs.declared.talk.Talk.{Ghosts as TalkWords}
 use Rattle.sws_engine.specs.declared.ended.Served.{Served}
-use Rattle.sws_engine.specs.Invariant.{event_for}
+use Rattle.sws_engine.specs.Tasks.{event_for}
 
 -- its trail is the path of the script, and bytes and end are its outcome
 pub record ConnFollows {T L G H : Type 0} (l : LinkWords L) (y : TalkWords T L G H) (hall : H)

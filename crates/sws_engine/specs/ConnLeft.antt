@@ -13,7 +13,7 @@ use Rattle.sws_conn.specs.Talks.{TalkView, unopened_view, reported_end, due, Has
 use Rattle.sws_steps.specs.Talks.{LinesServed}
 use Rattle.sws_engine.specs.declared.ended.Served.{Served}
 use Rattle.sws_engine.specs.Loads.{LinkStands}
-use Rattle.sws_engine.specs.Invariant.{event_for}
+use Rattle.sws_engine.specs.Tasks.{event_for}
 
 module _ {W L T G H : Type 0} (x : WorldWords W L) (l : LinkWords L) (y : TalkWords T L G H)
     (hall : H) (first : W) (i : ℕ) where

@@ -27,9 +27,7 @@ use Rattle.sws_engine.specs.Handling.{Put, Runs}
 use Rattle.sws_engine.specs.Initial.{first_poll, initial_load}
 use Rattle.sws_engine.specs.Loads.{FitsTold}
 use Rattle.sws_engine.specs.Place.{PlaceState}
-use Rattle.sws_engine.specs.RunLeft.{histories_in}
-use Rattle.sws_engine.specs.StepsLeave.{HasNotBegun}
-use Rattle.sws_engine.specs.ThreadsLeave.{HasRunThreads}
+use Rattle.sws_engine.specs.ServerLeaves.{HasNotBegun, HasRun, histories_in}
 
 -- an app over so many links, with the log or without, accounts for the weave, where this was posted
 pub record IsAccountedBy {R S P F : Type 0} (t : TrailWords S F)
@@ -104,9 +102,9 @@ module _ {W L T G H : Type 0} (x : WorldWords W L) (l : LinkWords L) (y : TalkWo
   -- a run by the shape, over the world that was handed in, and the runs of its handlers; nothing
   -- that they put was lost unless memory was refused
   pub record HasRunCrew : Type 0 where
-    pub run : HasRunThreads x l y shape hall first log ended
+    pub run : HasRun x l y shape hall first log ended
     pub lost : List (Put W L)
-    pub handled : HandlersRan x l y hall first log run.left.setup
+    pub handled : HandlersRan x l y hall first log run.setup
         (histories_in x l y shape hall first log ended) lost
     pub none_lost : ended.verdict ≢ verdict.Memory → lost ≡ []
 

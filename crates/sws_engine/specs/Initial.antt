@@ -1,5 +1,5 @@
 -- The initial states, and the event that begins a run.
-use Rattle.std.specs.Prelude.{◌≡◌, ℕ, ◌+◌, ◌≤◌, ◌<◌, ◌==◌, Bool, false, if◌then◌else◌, List, [], length, Some, None, slice_get}
+use Rattle.std.specs.Prelude.{◌≡◌, ℕ, ◌+◌, ◌≤◌, ◌<◌, ◌==◌, false, if◌then◌else◌, List, [], length, Some, None, slice_get}
 use Rattle.mely_event.specs.declared.event.Event.{Event}
 use Rattle.sws_steps.specs.declared.talk.Talk.{Ghosts as TalkWords}
 use Rattle.sws_conn.specs.Talks.{unopened_view}
@@ -7,7 +7,6 @@ use Rattle.sws_engine.specs.declared.load.WorldLoad.{WorldLoad}
 use Rattle.sws_engine.specs.declared.place.Seat.{Seat}
 use Rattle.sws_engine.specs.declared.place.Role.{Role}
 use Rattle.sws_engine.specs.declared.place.Role.TheVariants.{Polling, Accepting, Talking, Logging}
-use Rattle.sws_engine.specs.Counting.{colours_over}
 use Rattle.sws_engine.specs.declared.task.Task.TheVariants as task
 use Rattle.sws_engine.specs.Tasks.{event_of}
 use Rattle.sws_engine.specs.KeptLines.{no_lines}
@@ -28,13 +27,6 @@ module _ {W L T G H : Type 0} (y : TalkWords T L G H) (first : W) where
     pub colour : s.colour.0 ≡ c
     pub world : s.first ≡ first
     pub role : IsInitialRole total c s.role
-
-  -- a state for colours 0 and 1, and one for each connection, and with the log one more
-  pub record AreInitialPlaces (total : ℕ) (log : Bool)
-      (states : List (PlaceState H W T)) : Type 0 where
-    pub many : length states ≡ colours_over total log
-    pub each : (i : ℕ) (s : PlaceState H W T) → slice_get states i ≡ Some s
-        → IsInitialPlace total i s
 
 -- the first poll: 1 where no link is to come
 abbrev pub first_poll : ℕ → Event

@@ -15,15 +15,10 @@ use Rattle.sws_engine.specs.declared.place.Seat.{Seat}
 use Rattle.sws_engine.specs.declared.place.Role.{Role}
 use Rattle.sws_engine.specs.declared.place.Role.TheVariants.{Polling, Accepting, Talking, Logging}
 use Rattle.sws_engine.specs.Loads.{WorldStands, LinkStands, IsLineIn}
-use Rattle.sws_engine.specs.declared.task.Task.TheVariants as task
-use Rattle.sws_engine.specs.Tasks.{event_of}
+use Rattle.sws_engine.specs.Tasks.{event_for}
 use Rattle.sws_engine.specs.Handling.{is_due, conn_of}
 use Rattle.sws_engine.specs.Place.{PlaceState}
 use Rattle.sws_engine.specs.Counting.{times}
-
--- the event of a connection that asks for a step
-abbrev pub event_for : ℕ → Handler → Event
-event_for conn step = event_of (task.Step step) conn
 
 module _ {W L : Type 0} (x : WorldWords W L) (l : LinkWords L) (first : W) where
   -- each connection of the run may wait, once at most, nobody else does, and a world that

@@ -16,7 +16,6 @@ pub mod PathStates
 pub mod RunStands
 pub mod RunFact
 pub mod Initial
-pub mod RunEnds
 pub mod PartsKept
 pub mod RunParts
 pub mod EndRoom
@@ -24,15 +23,12 @@ pub mod RunLeaves
 pub mod LeftKept
 pub mod Handing
 pub mod Conclusion
-pub mod RunLeft
-pub mod StepsLeave
-pub mod ThreadsLeave
+pub mod ServerLeaves
 pub mod RunFits
 pub mod ConnLeft
 pub mod Server
 pub mod ServerRun
-pub mod Agrees
-pub mod Placed
+pub mod Openings
 pub mod ServerRows
 pub mod ServedRun
 pub mod Modelled

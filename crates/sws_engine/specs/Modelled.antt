@@ -8,7 +8,7 @@ use Rattle.sws_steps.specs.Logs.{Step}
 use Rattle.sws_engine.specs.declared.ended.Ended.{Ended}
 use Rattle.sws_engine.specs.declared.ended.Verdict.TheVariants as verdict
 use Rattle.sws_engine.specs.PathStates.{TellsPaths}
-use Rattle.sws_engine.specs.Agrees.{AreOpened}
+use Rattle.sws_engine.specs.Openings.{AreOpened}
 use Rattle.sws_engine.specs.ServerRun.{IsRunOfPaths}
 
 -- where the world is scripted and each path of its links opens once, the histories at Ok are those

@@ -1,5 +1,5 @@
 -- What the parts keep of a weave that was run and taken apart.
-use Rattle.std.specs.Prelude.{◌≡◌, ℕ, Bool, List, [], Option, Some, length, flat_map, slice_get}
+use Rattle.std.specs.Prelude.{◌≡◌, ℕ, ◌+◌, ◌≤◌, ◌<◌, Bool, List, [], Option, Some, length, flat_map, slice_get}
 use Rattle.mely_event.specs.declared.colour.Colour.{Colour}
 use Rattle.mely_event.specs.declared.event.Event.{Event}
 use Rattle.mely_history.specs.History.{ran_of}
@@ -13,9 +13,20 @@ use Rattle.mely_weave.specs.declared.draining.Drained.TheVariants.{Empty}
 use Rattle.sws_link.specs.declared.world.World.{Ghosts as WorldWords}
 use Rattle.sws_steps.specs.declared.talk.Talk.{Ghosts as TalkWords}
 use Rattle.sws_engine.specs.declared.load.Load.{Load}
+use Rattle.sws_engine.specs.declared.place.Desk.{Desk}
+use Rattle.sws_engine.specs.declared.place.Seat.{Seat}
+use Rattle.sws_engine.specs.declared.place.Role.TheVariants.{Polling, Accepting, Talking, Logging}
 use Rattle.sws_engine.specs.Counting.{colours_over}
 use Rattle.sws_engine.specs.Place.{PlaceState}
-use Rattle.sws_engine.specs.RunEnds.{IsPlacedAs}
+
+-- the state is of the colour, and has its role: the first polls, the second accepts, so many more
+-- talk, and one behind these keeps the log
+pub record IsPlacedAs {H W T : Type 0} (total i : ℕ) (place : PlaceState H W T) : Type 0 where
+  pub colour : place.colour.0 ≡ i
+  pub polls : i ≡ 0 → (desk : Desk W) × (place.role ≡ Polling desk)
+  pub accepts : i ≡ 1 → place.role ≡ Accepting
+  pub talks : 2 ≤ i → i < total + 2 → (seat : Seat T) × (place.role ≡ Talking seat)
+  pub logs : i ≡ total + 2 → place.role ≡ Logging
 
 -- The histories are legal, one for each shard, and where the weave was drained each of them is and
 -- nothing is queued. There is a state for each colour, of its role, over the world that was handed

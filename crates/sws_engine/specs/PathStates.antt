@@ -125,28 +125,6 @@ is_spoilt_role y Logging = false
 abbrev pub is_spoilt : {W T L G H : Type 0} → TalkWords T L G H → PlaceState H W T → Bool
 is_spoilt y s = is_spoilt_role y s.role
 
--- how many worlds a state and a load have
-abbrev pub worlds_of_rest : {W : Type 0} → Option (WorldLoad W) → ℕ
-worlds_of_rest None = 0
-worlds_of_rest (Some held) = 1
-
--- how many worlds a role has
-abbrev pub worlds_of_role : {W T : Type 0} → Role W T → ℕ
-worlds_of_role (Polling desk) = worlds_of_rest desk.resting
-worlds_of_role Accepting = 0
-worlds_of_role (Talking seat) = 0
-worlds_of_role Logging = 0
-
--- how many worlds a state has
-abbrev pub worlds_of_state : {H W T : Type 0} → PlaceState H W T → ℕ
-worlds_of_state s = worlds_of_role s.role
-
--- how many worlds a load has
-abbrev pub worlds_of_load : {W L : Type 0} → Load W L → ℕ
-worlds_of_load (load.World held) = 1
-worlds_of_load (load.Link link) = 0
-worlds_of_load (load.Line line) = 0
-
 -- there is no load on both sides, or the one is as the other
 abbrev pub AreLoads : {P : Type 0} → (P → path.Load → Type 0) → Option P → Option path.Load → Type 0
 AreLoads IsLoad None None = ⊤

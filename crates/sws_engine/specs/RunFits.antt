@@ -1,5 +1,5 @@
 -- What is still under way at the end of a run fits, and each state is over the hall.
-use Rattle.std.specs.Prelude.{◌≡◌, ℕ, List, Option, None, Some, slice_get}
+use Rattle.std.specs.Prelude.{◌≡◌, ℕ, List, Option, Some, slice_get}
 use Rattle.std.specs.List.{AllByRecursion}
 use Rattle.mely_event.specs.declared.colour.Colour.{Colour}
 use Rattle.mely_event.specs.declared.event.Event.{Event}
@@ -7,8 +7,7 @@ use Rattle.mely_queue.specs.Turn.{EachFits}
 use Rattle.sws_link.specs.declared.Link.{Ghosts as LinkWords}
 use Rattle.sws_link.specs.declared.world.World.{Ghosts as WorldWords}
 use Rattle.sws_engine.specs.declared.load.Load.{Load}
-use Rattle.sws_engine.specs.declared.load.Load.TheVariants as load
-use Rattle.sws_engine.specs.Loads.{Fit, WorldStands, LinkStands}
+use Rattle.sws_engine.specs.Loads.{Fit}
 use Rattle.sws_engine.specs.Place.{PlaceState}
 
 module _ {W L : Type 0} (x : WorldWords W L) (l : LinkWords L) (first : W) where
@@ -21,11 +20,3 @@ module _ {W L : Type 0} (x : WorldWords W L) (l : LinkWords L) (first : W) where
     pub queued : (c : Colour) (events : List (Event × Option (Load W L)))
         → slice_get waits c.0 ≡ Some events → EachFits (Fit x l first c) events
     pub lost : AllByRecursion (λ put. Fit x l first put.0 put.1 put.2) refused
-
-  -- what an event carries: the world of the run, or the link of the connection
-  -- to which nothing was done
-  abbrev pub CarriesStanding : ℕ → Option (Load W L) → Type 0
-  CarriesStanding i None = Unit {0}
-  CarriesStanding i (Some (load.World held)) = WorldStands x l first held
-  CarriesStanding i (Some (load.Link link)) = LinkStands x l first i link
-  CarriesStanding i (Some (load.Line line)) = Unit {0}

@@ -13,7 +13,7 @@ use Rattle.sws_engine.specs.declared.place.Seat.{Seat}
 use Rattle.sws_engine.specs.Place.{PlaceState}
 use Rattle.sws_engine.specs.Loads.{LinkStands}
 use Rattle.sws_engine.specs.Handling.{conn_of}
-use Rattle.sws_engine.specs.Invariant.{event_for}
+use Rattle.sws_engine.specs.Tasks.{event_for}
 
 module _ {W L T G H : Type 0} (x : WorldWords W L) (l : LinkWords L) (y : TalkWords T L G H)
     (place : PlaceState H W T) (seat : Seat T) where

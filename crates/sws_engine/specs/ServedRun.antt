@@ -24,7 +24,7 @@ use Rattle.sws_engine.specs.Counting.{colours_over}
 use Rattle.sws_engine.specs.Place.{PlaceState}
 use Rattle.sws_engine.specs.Initial.{AreInitialPlacesOver, first_poll, initial_load}
 use Rattle.sws_engine.specs.PathStates.{TellsPaths, is_spoilt}
-use Rattle.sws_engine.specs.Agrees.{AreOpened}
+use Rattle.sws_engine.specs.Openings.{AreOpened}
 use Rattle.sws_engine.specs.ServerRun.{server_rules, IsRunOfPaths}
 
 module _ {W L T G H : Type 0} (x : WorldWords W L) (y : TalkWords T L G H) where

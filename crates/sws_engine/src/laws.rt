@@ -9,7 +9,7 @@ ghost use Rattle.sws_link.specs.Scripts.{Script};
 ghost use Rattle.sws_site.specs.Site.{SiteState};
 ghost use Rattle.sws_site.specs.Limits.{IsWithinLimits};
 ghost use Rattle.sws_conn.specs.Logs.{steps_of};
-ghost use Rattle.sws_engine.specs.Agrees.{AreOpened};
+ghost use Rattle.sws_engine.specs.Openings.{AreOpened};
 ghost use Rattle.sws_engine.specs.ServerRows.{WorkedSchedules};
 
 use crate::place::Place;

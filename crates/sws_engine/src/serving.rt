@@ -3,7 +3,7 @@ ghost use Rattle.std.specs.Prelude.{◌≡◌};
 ghost use Rattle.std.specs.List.{AllByRecursion};
 ghost use Rattle.sws_engine.specs.Begins.{IsScheduleOf, IsShapedFor};
 ghost use Rattle.sws_engine.specs.Scripted.{IsScheduled};
-ghost use Rattle.sws_engine.specs.StepsLeave.{StepsLeave};
+ghost use Rattle.sws_engine.specs.ServerLeaves.{ServerLeaves};
 
 use crate::ended::Ended;
 use crate::laws::each_path_opens_once;
@@ -33,7 +33,7 @@ pub fn serve_steps<'s, R: Wait, W: World + Drop>(
 ) -> Ended<W>
     requires shape { IsShapedFor W.World shape.now world log }
     requires schedule { IsScheduleOf shape.now.cores schedule.now }
-    ensures leaves { StepsLeave W.World W.Link.Link ⟦<Conn<'s, W::Link> as Talk<W::Link>>⟧ shape.now
+    ensures leaves { ServerLeaves W.World W.Link.Link ⟦<Conn<'s, W::Link> as Talk<W::Link>>⟧ shape.now
         site.now world log result }
     ensures scheduled { IsScheduled W.World site.now shape.now world log schedule.now result }
     ensures listed { AllByRecursion (λ history. history.listed ≡ listed)

@@ -4,7 +4,7 @@ ghost use Rattle.std.specs.List.{AllByRecursion};
 ghost use Rattle.mely_event.specs.HandlerTable.{rows_of};
 ghost use Rattle.mely_history.specs.Setup.{colours_of, first_out_of_range, handlers_of, is_listed, pinned_of, shape_of};
 ghost use Rattle.sws_engine.specs.Begins.{IsScheduleOf, IsShapedFor};
-ghost use Rattle.sws_engine.specs.StepsLeave.{HasNotBegun, StepsLeave};
+ghost use Rattle.sws_engine.specs.ServerLeaves.{HasNotBegun, ServerLeaves};
 ghost use Rattle.sws_engine.specs.ServerRun.{handler_rows};
 ghost use Rattle.sws_engine.specs.Tasks.{handler_count};
 ghost use Rattle.sws_engine.specs.Modelled.{IsModelled};
@@ -101,7 +101,7 @@ pub(crate) fn talk_gated<R: Wait, W: World + Drop, T: Talk<W::Link> + Drop, G: G
 ) -> Ended<W>
     requires shape { IsShapedFor W.World shape.now world log }
     requires schedule { IsScheduleOf shape.now.cores schedule.now }
-    ensures leaves { StepsLeave W.World W.Link.Link T.Talk shape.now
+    ensures leaves { ServerLeaves W.World W.Link.Link T.Talk shape.now
         (T.contents_of hall) world log result }
     ensures model { IsModelled W.World W.Link.Link T.Talk (T.contents_of hall) shape.now
         world log schedule.now result }
@@ -138,7 +138,7 @@ pub fn talk_steps<R: Wait, W: World + Drop, T: Talk<W::Link> + Drop>(
 ) -> Ended<W>
     requires shape { IsShapedFor W.World shape.now world log }
     requires schedule { IsScheduleOf shape.now.cores schedule.now }
-    ensures leaves { StepsLeave W.World W.Link.Link T.Talk shape.now
+    ensures leaves { ServerLeaves W.World W.Link.Link T.Talk shape.now
         (T.contents_of hall) world log result }
     ensures model { IsModelled W.World W.Link.Link T.Talk (T.contents_of hall) shape.now
         world log schedule.now result }

@@ -19,11 +19,10 @@ ghost use Rattle.sws_engine.specs.Initial.{AreInitialPlacesOver, first_poll};
 ghost use Rattle.sws_engine.specs.Invariant.{IsConsistent};
 ghost use Rattle.sws_engine.specs.RunFits.{RunFits};
 ghost use Rattle.sws_engine.specs.PartsKept.{PartsKept};
-ghost use Rattle.sws_engine.specs.ThreadsLeave.{ThreadsLeave};
+ghost use Rattle.sws_engine.specs.ServerLeaves.{ServerLeaves};
 ghost use Rattle.sws_link.specs.Limits.{conn_limit};
 ghost use Rattle.sws_engine.specs.Modelled.{IsModelled};
 ghost use Rattle.sws_engine.specs.Scripted.{IsScheduled};
-ghost use Rattle.sws_engine.specs.StepsLeave.{StepsLeave};
 
 use crate::app::Sws;
 use crate::concluding::conclude;
@@ -254,11 +253,9 @@ where
     W::Link: Send,
     T::Hall: Send,
     requires { IsShapedFor W.World shape.now world log }
-    ensures leaves { ThreadsLeave W.World W.Link.Link T.Talk shape.now (T.contents_of hall)
+    ensures leaves { ServerLeaves W.World W.Link.Link T.Talk shape.now (T.contents_of hall)
         world log result }
     ensures crew { shape.now.cores ≢ 1 → CrewLeaves W.World W.Link.Link T.Talk shape.now
-        (T.contents_of hall) world log result }
-    ensures alone { shape.now.cores ≡ 1 → StepsLeave W.World W.Link.Link T.Talk shape.now
         (T.contents_of hall) world log result }
     ensures model { shape.now.cores ≡ 1 → IsModelled W.World W.Link.Link T.Talk
         (T.contents_of hall) shape.now world log [] result }
@@ -283,9 +280,9 @@ where
 /// Serves all links of a world out of a site, with a thread for each worker; the gate is passed
 /// before each handler. The histories are listed or not, as is asked. It need not return.
 ///
-/// The verdict is exactly what the run shows, and never [`Verdict::Apart`](crate::Verdict::Apart):
-/// on one worker or on several, no connection is ever lost, and no line of the access log is out of
-/// its turn.
+/// Unless memory was refused, each connection that was accepted was served, and no line of the access
+/// log is out of its turn, on one worker or on several: the verdict is never
+/// [`Verdict::Apart`](crate::Verdict::Apart).
 ///
 /// Several workers begin with the first poll of the world, and run the server's handlers alone, with
 /// the access log where it is asked for: what these put was registered, or was refused for memory.
@@ -306,13 +303,10 @@ pub fn serve_all<'s, R: Threads + Wait + Sync, W: World + Drop + Send, G: Gate +
 where
     W::Link: Send,
     requires { IsShapedFor W.World shape.now world log }
-    ensures leaves { ThreadsLeave W.World W.Link.Link ⟦<Conn<'s, W::Link> as Talk<W::Link>>⟧
+    ensures leaves { ServerLeaves W.World W.Link.Link ⟦<Conn<'s, W::Link> as Talk<W::Link>>⟧
         shape.now site.now world log result }
     ensures crew { shape.now.cores ≢ 1
         → CrewLeaves W.World W.Link.Link ⟦<Conn<'s, W::Link> as Talk<W::Link>>⟧
-        shape.now site.now world log result }
-    ensures alone { shape.now.cores ≡ 1
-        → StepsLeave W.World W.Link.Link ⟦<Conn<'s, W::Link> as Talk<W::Link>>⟧
         shape.now site.now world log result }
     ensures scheduled { shape.now.cores ≡ 1
         → IsScheduled W.World site.now shape.now world log [] result }

@@ -1,6 +1,6 @@
 -- One generation after another.
 use Rattle.std.specs.Prelude.{option_map, flat_map}
-use Rattle.std.proofs.Common.{◌≡◌, ℕ, List, [], ◌∷◌, ◌++◌, Option, Some, None, refl, sym, ap, ◌∙◌, subst, append_assoc, append-nil}
+use Rattle.std.proofs.Common.{◌≡◌, ℕ, true, false, List, [], ◌∷◌, ◌++◌, Option, Some, None, refl, sym, ap, ◌∙◌, subst, append_assoc, append-nil}
 use Rattle.std.proofs.lemmas.Grind.{flat_map-append}
 use Rattle.sws_link.specs.Contents.{IsPrefix}
 use Rattle.sws_link.specs.Worlds.{Listens}
@@ -11,7 +11,7 @@ use Rattle.sws_link.specs.declared.world.World.{Ghosts as WorldWords}
 use Rattle.sws_site.specs.Site.{SiteState}
 use Rattle.sws_steps.specs.declared.talk.Talk.{Ghosts as TalkWords}
 use Rattle.sws_engine.specs.declared.ended.Ended.{Ended}
-use Rattle.sws_lane.specs.Generations.{Generation, IsRun, RunsBy, AreGenerations, AreTotals, LeavesBy, world_by}
+use Rattle.sws_lane.specs.Generations.{Generation, IsRun, IsRunBy, IsRunOfBursts, IsRunOfSteps, RunsBy, AreGenerations, AreTotals, LeavesBy, world_by}
 use Rattle.sws_lane.specs.Keepers.{KeeperCall, Report, IsCalled}
 use Rattle.sws_lane.specs.Keepers as call
 use Rattle.sws_lane.specs.Keeping.{Keeps, KeepsServing, ServesNext, ServesNone, calls_in, last_call}
@@ -34,20 +34,29 @@ calls_more : (calls : Option (List KeeperCall)) (xs ys : List KeeperCall)
 calls_more None xs ys = refl
 calls_more (Some all) xs ys = ap Some (append_assoc all xs ys)
 
-module _ {W L T G : Type 0} (x : WorldWords W L) (l : LinkWords L) (y : TalkWords T L G SiteState) (terms : Terms) where
-  generations_more : (first : Option W) (xs ys : List (Generation W L)) (between last : Option W) → AreGenerations x l y terms first xs between
-      → AreGenerations x l y terms between ys last → AreGenerations x l y terms first (xs ++ ys) last
-  generations_more first [] ys between last h k = subst (λ w. AreGenerations x l y terms w ys last) h k
+module _ {W L T U G : Type 0} (x : WorldWords W L) (l : LinkWords L) (y : TalkWords T L G SiteState) (z : TalkWords U L G SiteState) (terms : Terms) where
+  generations_more : (first : Option W) (xs ys : List (Generation W L)) (between last : Option W) → AreGenerations x l y z terms first xs between
+      → AreGenerations x l y z terms between ys last → AreGenerations x l y z terms first (xs ++ ys) last
+  generations_more first [] ys between last h k = subst (λ w. AreGenerations x l y z terms w ys last) h k
   generations_more None (one ∷ xs) ys between last h k = absurd h
   generations_more (Some world) (one ∷ xs) ys between last h k =
       (h.0, generations_more (world_by one.first one.ended) xs ys between last h.1 k)
 
   -- ---- one
 
+  -- a run with the log, and one without
+  pub run_of_steps : (site : SiteState) (first : W) (ended : Ended W L) → terms.log ≡ true → IsRunOfSteps x l y z terms site first ended
+      → IsRun x l y z terms site first ended
+  run_of_steps site first ended log run = subst (λ kept. IsRunBy x l y z terms kept site first ended) (sym log) run
+
+  pub run_of_bursts : (site : SiteState) (first : W) (ended : Ended W L) → terms.log ≡ false → IsRunOfBursts x l y z terms site first ended
+      → IsRun x l y z terms site first ended
+  run_of_bursts site first ended log run = subst (λ kept. IsRunBy x l y z terms kept site first ended) (sym log) run
+
   pub leaves_unopened : (site : SiteState) (world first : W) (answer : Opened) (last : Option W) (report : Report)
-      → Listens x.tells x.faults x.waits world terms.port terms.connections answer first → RunsBy x l y terms answer site first None
+      → Listens x.tells x.faults x.waits world terms.port terms.connections answer first → RunsBy x l y z terms answer site first None
       → last ≡ Some first → report.opened ≡ answer → report.verdict ≡ None → report.totals ≡ no_totals → report.lines ≡ []
-      → LeavesBy x l y terms site world last report
+      → LeavesBy x l y z terms site world last report
   leaves_unopened site world first answer last report listens runs left opened verdict totals lines =
       let one : Generation W L = record { site = site; answer = answer; first = first; ended = None; told = report } in
       record {
@@ -68,9 +77,9 @@ module _ {W L T G : Type 0} (x : WorldWords W L) (l : LinkWords L) (y : TalkWord
       }
 
   pub leaves_run : (site : SiteState) (world first : W) (ended : Ended W L) (last : Option W) (report : Report)
-      → Listens x.tells x.faults x.waits world terms.port terms.connections opened.Ready first → IsRun x l y terms site first ended
+      → Listens x.tells x.faults x.waits world terms.port terms.connections opened.Ready first → IsRun x l y z terms site first ended
       → last ≡ ended.world → report.opened ≡ opened.Ready → report.verdict ≡ Some ended.verdict → AddsUp one_generation ended.served.items report.totals
-      → report.lines ≡ ended.log.items → LeavesBy x l y terms site world last report
+      → report.lines ≡ ended.log.items → LeavesBy x l y z terms site world last report
   leaves_run site world first ended last report listens run left ready verdict adds lines =
       let one : Generation W L = record { site = site; answer = opened.Ready; first = first; ended = Some ended; told = report } in
       record {
@@ -96,7 +105,7 @@ module _ {W L T G : Type 0} (x : WorldWords W L) (l : LinkWords L) (y : TalkWord
     -- nothing was served, and the keeper was called so
     pub serves_none : (lane lane_now : Lane W K L) (after : List KeeperCall) → AreKept lane.totals → lane_now.totals ≡ lane.totals
         → lane_now.world ≡ lane.world → k.calls_of lane_now.keeper ≡ option_map (λ all. all ++ after) (k.calls_of lane.keeper)
-        → KeepsServing x l y k terms lane lane_now after
+        → KeepsServing x l y z k terms lane lane_now after
     serves_none lane lane_now after kept totals world calls = record {
       generations = [];
       each = world;
@@ -105,15 +114,15 @@ module _ {W L T G : Type 0} (x : WorldWords W L) (l : LinkWords L) (y : TalkWord
     }
 
     -- a lane as it is
-    pub serves_so_far : (lane : Lane W K L) → AreKept lane.totals → KeepsServing x l y k terms lane lane []
+    pub serves_so_far : (lane : Lane W K L) → AreKept lane.totals → KeepsServing x l y z k terms lane lane []
     serves_so_far lane kept = serves_none lane lane [] kept refl refl (calls_none (k.calls_of lane.keeper))
 
     -- the world is lost, and nobody was asked
     pub stops_lost : (lane lane_now : Lane W K L) → AreKept lane.totals → lane_now.totals ≡ lane.totals → lane.world ≡ None
-        → lane_now.world ≡ None → k.calls_of lane_now.keeper ≡ k.calls_of lane.keeper → ServesNone x l y k terms lane lane_now
+        → lane_now.world ≡ None → k.calls_of lane_now.keeper ≡ k.calls_of lane.keeper → ServesNone x l y z k terms lane lane_now
     unfolding serves_none
     stops_lost lane lane_now kept totals lost gone same = record {
-      served = subst (λ w. KeepsServing x l y k terms lane lane_now (last_call w)) (sym gone)
+      served = subst (λ w. KeepsServing x l y z k terms lane lane_now (last_call w)) (sym gone)
           (serves_none lane lane_now [] kept totals (gone ∙ sym lost) (same ∙ calls_none (k.calls_of lane.keeper)));
       none = refl;
     }
@@ -121,17 +130,17 @@ module _ {W L T G : Type 0} (x : WorldWords W L) (l : LinkWords L) (y : TalkWord
     -- the keeper refused
     pub stops_refused : (lane lane_now : Lane W K L) (world : W) → AreKept lane.totals → lane_now.totals ≡ lane.totals
         → lane.world ≡ Some world → lane_now.world ≡ Some world → IsCalled k.calls_of lane.keeper call.Refused lane_now.keeper
-        → ServesNone x l y k terms lane lane_now
+        → ServesNone x l y z k terms lane lane_now
     unfolding serves_none
     stops_refused lane lane_now world kept totals there stays refused = record {
-      served = subst (λ w. KeepsServing x l y k terms lane lane_now (last_call w)) (sym stays)
+      served = subst (λ w. KeepsServing x l y z k terms lane lane_now (last_call w)) (sym stays)
           (serves_none lane lane_now (call.Refused ∷ []) kept totals (stays ∙ sym there) refused);
       none = refl;
     }
 
     -- some were served, and then others
-    pub serves_more : (p q r : Lane W K L) (after : List KeeperCall) → KeepsServing x l y k terms p q [] → KeepsServing x l y k terms q r after
-        → KeepsServing x l y k terms p r after
+    pub serves_more : (p q r : Lane W K L) (after : List KeeperCall) → KeepsServing x l y z k terms p q [] → KeepsServing x l y z k terms q r after
+        → KeepsServing x l y z k terms p r after
     serves_more p q r after h g = record {
       generations = h.generations ++ g.generations;
       each = generations_more p.world h.generations g.generations q.world r.world h.each g.each;
@@ -149,13 +158,13 @@ module _ {W L T G : Type 0} (x : WorldWords W L) (l : LinkWords L) (y : TalkWord
 
     -- one was served
     pub serves_one : (lane lane_now : Lane W K L) (begun : K) (world : W) (site : SiteState) (report : Report) → lane.world ≡ Some world
-        → LeavesBy x l y terms site world lane_now.world report → lane_now.totals ≡ both_totals lane.totals report.totals
+        → LeavesBy x l y z terms site world lane_now.world report → lane_now.totals ≡ both_totals lane.totals report.totals
         → site ≡ k.site_of begun → IsCalled k.calls_of lane.keeper (call.Began (k.site_of begun)) begun
-        → IsCalled k.calls_of begun (call.Heard report) lane_now.keeper → ServesNext x l y k terms lane lane_now
+        → IsCalled k.calls_of begun (call.Heard report) lane_now.keeper → ServesNext x l y z k terms lane lane_now
     serves_one lane lane_now begun world site report there leaves totals of begins ends = record {
       served = record {
         generations = leaves.one ∷ [];
-        each = subst (λ w. AreGenerations x l y terms w (leaves.one ∷ []) lane_now.world) (sym there) (leaves.is, leaves.left);
+        each = subst (λ w. AreGenerations x l y z terms w (leaves.one ∷ []) lane_now.world) (sym there) (leaves.is, leaves.left);
         totals = subst (λ (t : Totals). AreTotals lane.totals (leaves.one ∷ []) t) (sym totals)
             (totals_both lane.totals report.totals (leaves.one ∷ []) (subst (λ (r : Report). AreTotals no_totals (leaves.one ∷ []) r.totals) leaves.reported leaves.is.told.totals));
         calls = ends ∙ (ap (option_map (λ all. all ++ call.Heard report ∷ [])) begins
@@ -168,8 +177,9 @@ module _ {W L T G : Type 0} (x : WorldWords W L) (l : LinkWords L) (y : TalkWord
 
     -- they are in turn too
     pub keeps_all : ((site : SiteState) (front bytes : List ℕ) → IsPrefix front bytes → IsPrefix (y.responses site front) (y.responses site bytes))
-        → (lane lane_now : Lane W K L) → KeepsServing x l y k terms lane lane_now (last_call lane_now.world) → Keeps x l y k terms lane lane_now
-    keeps_all law lane lane_now served = record {
+        → ((site : SiteState) (bytes : List ℕ) → z.responses site bytes ≡ y.responses site bytes)
+        → (lane lane_now : Lane W K L) → KeepsServing x l y z k terms lane lane_now (last_call lane_now.world) → Keeps x l y z k terms lane lane_now
+    keeps_all law same lane lane_now served = record {
       served = served;
-      in_turn = in_turn x l y terms law served.generations lane.world lane_now.world served.each;
+      in_turn = in_turn x l y z terms law same served.generations lane.world lane_now.world served.each;
     }

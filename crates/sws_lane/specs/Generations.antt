@@ -1,5 +1,5 @@
 -- The generations of a lane: runs of the server, each over the world that the one before left.
-use Rattle.std.specs.Prelude.{◌≡◌, ℕ, ◌+◌, List, [], ◌∷◌, ◌++◌, flat_map, sum_by, count_by, Option, None, Some, is_some, option_map, slice_get}
+use Rattle.std.specs.Prelude.{◌≡◌, ℕ, ◌+◌, Bool, true, false, List, [], ◌∷◌, ◌++◌, flat_map, sum_by, count_by, Option, None, Some, is_some, option_map, slice_get}
 use Rattle.sws_link.specs.Contents.{IsPrefix}
 use Rattle.sws_link.specs.Links.{LinkContents, input_of}
 use Rattle.sws_link.specs.Worlds.{Coming, Listens}
@@ -11,9 +11,9 @@ use Rattle.sws_log.specs.declared.line.LogLine.{LogLine}
 use Rattle.sws_site.specs.Site.{SiteState}
 use Rattle.sws_steps.specs.declared.End.TheVariants as ending
 use Rattle.sws_steps.specs.declared.talk.Talk.{Ghosts as TalkWords}
+use Rattle.sws_engine.specs.Modelled.{IsModelled}
 use Rattle.sws_engine.specs.Scripted.{IsScheduled}
-use Rattle.sws_engine.specs.StepsLeave.{StepsLeave}
-use Rattle.sws_engine.specs.ThreadsLeave.{ThreadsLeave}
+use Rattle.sws_engine.specs.ServerLeaves.{ServerLeaves}
 use Rattle.sws_engine.specs.declared.ended.Ended.{Ended}
 use Rattle.sws_engine.specs.declared.ended.Served.{Served}
 use Rattle.sws_lane.specs.Keepers.{Report}
@@ -88,14 +88,26 @@ pub record IsToldOf {W L : Type 0} (one : Generation W L) : Type 0 where
 
 -- ---- one generation
 
-module _ {W L T G : Type 0} (x : WorldWords W L) (l : LinkWords L) (y : TalkWords T L G SiteState)
-    (terms : Terms) where
+module _ {W L T U G : Type 0} (x : WorldWords W L) (l : LinkWords L)
+    (y : TalkWords T L G SiteState) (z : TalkWords U L G SiteState) (terms : Terms) where
+  -- what is promised of a run with the log, of which each event is a step of a connection
+  pub record IsRunOfSteps (site : SiteState) (first : W) (ended : Ended W L) : Type 0 where
+    pub leaves : ServerLeaves x l y terms.shape site first true ended
+    pub scheduled : terms.shape.cores ≡ 1 → IsScheduled x site terms.shape first true [] ended
+
+  -- what is promised of a run without, of which each event is a burst of steps
+  pub record IsRunOfBursts (site : SiteState) (first : W) (ended : Ended W L) : Type 0 where
+    pub leaves : ServerLeaves x l z terms.shape site first false ended
+    pub modelled : terms.shape.cores ≡ 1
+        → IsModelled x l z site terms.shape first false [] ended
+
   -- what is promised of every run of the server, over this world and out of this site
-  pub record IsRun (site : SiteState) (first : W) (ended : Ended W L) : Type 0 where
-    pub leaves : ThreadsLeave x l y terms.shape site first terms.log ended
-    pub alone : terms.shape.cores ≡ 1 → StepsLeave x l y terms.shape site first terms.log ended
-    pub scheduled : terms.shape.cores ≡ 1
-        → IsScheduled x site terms.shape first terms.log [] ended
+  abbrev pub IsRunBy : Bool → SiteState → W → Ended W L → Type 0
+  IsRunBy true site first ended = IsRunOfSteps site first ended
+  IsRunBy false site first ended = IsRunOfBursts site first ended
+
+  abbrev pub IsRun : SiteState → W → Ended W L → Type 0
+  IsRun site first ended = IsRunBy terms.log site first ended
 
   -- a world that is ready was served, and another was not
   abbrev pub RunsBy : Opened → SiteState → W → Option (Ended W L) → Type 0

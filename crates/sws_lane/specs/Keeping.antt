@@ -21,13 +21,14 @@ abbrev pub last_call : {W : Type 0} → Option W → List KeeperCall
 last_call None = []
 last_call (Some world) = call.Refused ∷ []
 
-module _ {W L T G K : Type 0} (x : WorldWords W L) (l : LinkWords L)
-    (y : TalkWords T L G SiteState) (k : KeeperWords K) (terms : Terms) where
+module _ {W L T U G K : Type 0} (x : WorldWords W L) (l : LinkWords L)
+    (y : TalkWords T L G SiteState) (z : TalkWords U L G SiteState) (k : KeeperWords K)
+    (terms : Terms) where
   -- generations were served one after another over the lane's world, with the totals their sums;
   -- the keeper was called in each of them, and then so
   pub record KeepsServing (lane lane_now : Lane W K L) (after : List KeeperCall) : Type 0 where
     pub generations : List (Generation W L)
-    pub each : AreGenerations x l y terms lane.world generations lane_now.world
+    pub each : AreGenerations x l y z terms lane.world generations lane_now.world
     pub totals : AreTotals lane.totals generations lane_now.totals
     pub calls : k.calls_of lane_now.keeper
         ≡ option_map (λ calls. calls ++ (flat_map calls_in generations ++ after))

@@ -1,6 +1,7 @@
 //! One generation of a lane.
 ghost use Rattle.std.specs.Prelude.{◌≡◌, [], None, Some};
-ghost use Rattle.sws_lane.specs.Generations.{LeavesBy};
+ghost use Rattle.sws_engine.specs.Begins.{IsShapedFor};
+ghost use Rattle.sws_lane.specs.Generations.{IsRun, LeavesBy};
 ghost use Rattle.sws_lane.specs.Keepers.{report_of};
 ghost use Rattle.sws_lane.specs.Terms.{AreTerms};
 ghost use Rattle.sws_lane.specs.Totals.{AddsUp, no_totals, one_generation};
@@ -12,8 +13,9 @@ use mely_worker::OpenGate;
 use std::alloc::Global;
 use std::sync::Wait;
 use std::thread::Threads;
+use sws_burst::Bursts;
 use sws_conn::{Conn, Talk};
-use sws_engine::{Ended, serve_all};
+use sws_engine::{Ended, serve_all, talk_all};
 use sws_link::{Opened, World};
 use sws_site::Site;
 
@@ -63,6 +65,39 @@ fn unopened<W: World + Drop>(alloc: Global, world: W, opened: Opened) -> (Option
     (Some(world), told)
 }
 
+/// Serves the connections of a world that is open out of the site. It need not return.
+///
+/// With the log each event is a step of a connection, which gives a line at most. Without it each
+/// is a burst of steps, so that a request costs one event and not seven.
+fn run_opened<R: Threads + Wait + Sync, W: World + Drop + Send>(
+    rt: &R,
+    alloc: Global,
+    terms: &Terms,
+    site: &Site,
+    world: W,
+) -> Ended<W>
+where
+    W::Link: Send,
+    requires { IsShapedFor W.World terms.now.shape world terms.now.log }
+    ensures { IsRun W.World W.Link.Link ⟦<Conn<'static, W::Link> as Talk<W::Link>>⟧
+        ⟦<Bursts<Conn<'static, W::Link>> as Talk<W::Link>>⟧ terms.now site.now world result }
+{
+    if terms.log {
+        serve_all(rt, alloc, site, &terms.shape, world, &OpenGate, true, false)
+    } else {
+        talk_all::<R, W, Bursts<Conn<'_, W::Link>>, OpenGate>(
+            rt,
+            alloc,
+            site,
+            &terms.shape,
+            world,
+            &OpenGate,
+            false,
+            false,
+        )
+    }
+}
+
 /// Opens the world and serves its connections out of the site. It need not return.
 pub fn serve_generation<R: Threads + Wait + Sync, W: World + Drop + Send>(
     rt: &R,
@@ -74,8 +109,9 @@ pub fn serve_generation<R: Threads + Wait + Sync, W: World + Drop + Send>(
 where
     W::Link: Send,
     requires { AreTerms terms.now }
-    ensures { LeavesBy W.World W.Link.Link ⟦<Conn<'static, W::Link> as Talk<W::Link>>⟧ terms.now
-        site.now world result.0 (report_of result.1) }
+    ensures { LeavesBy W.World W.Link.Link ⟦<Conn<'static, W::Link> as Talk<W::Link>>⟧
+        ⟦<Bursts<Conn<'static, W::Link>> as Talk<W::Link>>⟧ terms.now site.now world result.0
+        (report_of result.1) }
 {
     let mut world = world;
     match world.open(terms.port, terms.connections) {
@@ -83,7 +119,5 @@ where
         Opened::Failed => return unopened(alloc, world, Opened::Failed),
         Opened::Memory => return unopened(alloc, world, Opened::Memory),
     }
-    let log = terms.log;
-    let ended = serve_all(rt, alloc, site, &terms.shape, world, &OpenGate, log, false);
-    told_of(ended)
+    told_of(run_opened(rt, alloc, terms, site, world))
 }

@@ -12,6 +12,7 @@ use crate::lane::{Lane, Terms};
 use std::alloc::Global;
 use std::sync::Wait;
 use std::thread::Threads;
+use sws_burst::Bursts;
 use sws_conn::{Conn, Talk};
 use sws_link::{Link, World};
 
@@ -27,10 +28,12 @@ trait Leads<S> {
 
 impl<W: World, K: Keeper> Leads<Lane<W, K>> for Lane<W, K> {
     ghost leads = { λ terms lane lane_now. KeepsServing W.World W.Link.Link
-        ⟦<Conn<'static, W::Link> as Talk<W::Link>>⟧ K.Keeper terms lane lane_now [] };
+        ⟦<Conn<'static, W::Link> as Talk<W::Link>>⟧
+        ⟦<Bursts<Conn<'static, W::Link>> as Talk<W::Link>>⟧ K.Keeper terms lane lane_now [] };
 
     ghost ends = { λ terms lane lane_now. KeepsServing W.World W.Link.Link
-        ⟦<Conn<'static, W::Link> as Talk<W::Link>>⟧ K.Keeper terms lane lane_now
+        ⟦<Conn<'static, W::Link> as Talk<W::Link>>⟧
+        ⟦<Bursts<Conn<'static, W::Link>> as Talk<W::Link>>⟧ K.Keeper terms lane lane_now
         (last_call lane_now.world) };
 }
 
@@ -46,9 +49,11 @@ where
     W::Link: Send,
     requires { AreTerms terms.now }
     ensures next { OnTrue result (ServesNext W.World W.Link.Link
-        ⟦<Conn<'static, W::Link> as Talk<W::Link>>⟧ K.Keeper terms.now lane.old lane.new) }
+        ⟦<Conn<'static, W::Link> as Talk<W::Link>>⟧
+        ⟦<Bursts<Conn<'static, W::Link>> as Talk<W::Link>>⟧ K.Keeper terms.now lane.old lane.new) }
     ensures none { OnFalse result (ServesNone W.World W.Link.Link
-        ⟦<Conn<'static, W::Link> as Talk<W::Link>>⟧ K.Keeper terms.now lane.old lane.new) }
+        ⟦<Conn<'static, W::Link> as Talk<W::Link>>⟧
+        ⟦<Bursts<Conn<'static, W::Link>> as Talk<W::Link>>⟧ K.Keeper terms.now lane.old lane.new) }
 {
     lane.totals.are_kept();
     let Some(world) = lane.world.take() else {
@@ -77,9 +82,11 @@ where
     requires range { AreTerms terms.now }
     requires begins { M.leads terms.now lane.old lane.old }
     requires onward { (a b c : _) → M.leads terms.now a b → ServesNext W.World W.Link.Link
-        ⟦<Conn<'static, W::Link> as Talk<W::Link>>⟧ K.Keeper terms.now b c → M.leads terms.now a c }
+        ⟦<Conn<'static, W::Link> as Talk<W::Link>>⟧
+        ⟦<Bursts<Conn<'static, W::Link>> as Talk<W::Link>>⟧ K.Keeper terms.now b c → M.leads terms.now a c }
     requires stops { (a b c : _) → M.leads terms.now a b → ServesNone W.World W.Link.Link
-        ⟦<Conn<'static, W::Link> as Talk<W::Link>>⟧ K.Keeper terms.now b c → M.ends terms.now a c }
+        ⟦<Conn<'static, W::Link> as Talk<W::Link>>⟧
+        ⟦<Bursts<Conn<'static, W::Link>> as Talk<W::Link>>⟧ K.Keeper terms.now b c → M.ends terms.now a c }
     ensures { M.ends terms.now lane.old lane.new }
 {
     'generations: for _ in rt.forever() {
@@ -115,7 +122,8 @@ pub fn keep_serving<R: Threads + Wait + Sync, W: World + Drop + Send, K: Keeper>
 where
     W::Link: Send,
     requires { AreTerms terms.now }
-    ensures { Keeps W.World W.Link.Link ⟦<Conn<'static, W::Link> as Talk<W::Link>>⟧ K.Keeper
+    ensures { Keeps W.World W.Link.Link ⟦<Conn<'static, W::Link> as Talk<W::Link>>⟧
+        ⟦<Bursts<Conn<'static, W::Link>> as Talk<W::Link>>⟧ K.Keeper
         terms.now lane.old lane.new }
 {
     lane.totals.are_kept();

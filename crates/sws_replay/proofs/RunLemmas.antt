@@ -18,13 +18,10 @@ use Rattle.sws_steps.specs.declared.talk.Talk.{Ghosts as TalkWords}
 use Rattle.sws_engine.specs.ConnFollows.{ConnFollows}
 use Rattle.sws_engine.specs.ConnLeft.{LinkLeft, ConnLeft}
 use Rattle.sws_engine.specs.Counting.{colours_over}
-use Rattle.sws_engine.specs.Invariant.{event_for}
+use Rattle.sws_engine.specs.Tasks.{event_for}
 use Rattle.sws_engine.specs.LogTurns.{lines_for}
 use Rattle.sws_engine.specs.Loads.{IsComing, LinkStands, WorldStands}
-use Rattle.sws_engine.specs.RunLeaves.{is_out_of_memory, links_owed, NoneOutOfMemory}
-use Rattle.sws_engine.specs.RunLeft.{RunLeft, AllFollow}
-use Rattle.sws_engine.specs.StepsLeave.{StepsLeave}
-use Rattle.sws_engine.specs.ThreadsLeave.{ThreadsLeave}
+use Rattle.sws_engine.specs.ServerLeaves.{HasRun, ServerLeaves}
 use Rattle.sws_engine.specs.declared.ended.Ended.{Ended}
 use Rattle.sws_engine.specs.declared.ended.Served.{Served}
 use Rattle.sws_engine.specs.declared.ended.Verdict.{Verdict}
@@ -82,11 +79,8 @@ module _ {T G H : Type 0} (x : WorldWords MemWorldState MemLinkState) (l : LinkW
       subst (λ (t : Option LinkContents). ServesTold (y.responses hall) t (l.tells link) view) (came i conn left.0 at left.1) left.2.told in
       subst (λ (t : LinkContents). ServesLink (y.responses hall) (initial_contents (coming_of conn)) t view) (tells_is link serves.0 serves.1) serves.2
 
-  not_memory : (end : End) → is_out_of_memory (Some end) ≡ false → end ≢ Memory
-  not_memory end enough same = true≢false (ap (λ (e : End). is_out_of_memory (Some e)) (sym same) ∙ enough)
-
   served_alone : (i : ℕ) (conn : ScriptConn) (s : Served MemLinkState) (trail : List Event) → slice_get conns i ≡ Some conn → ConnLeft x l y hall first i trail s → ConnFollows l y hall i (script_of conn) trail s
-      → is_out_of_memory s.end ≡ false → IsServedAlone (of_talk y hall) conn s
+      → s.end ≢ Some Memory → IsServedAlone (of_talk y hall) conn s
   served_alone i conn s trail at left follows enough =
       let view : TalkView = left.view in
       let link : MemLinkState = follows.link in
@@ -96,7 +90,7 @@ module _ {T G H : Type 0} (x : WorldWords MemWorldState MemLinkState) (l : LinkW
         link = link;
         there = follows.there;
         end = end_is;
-        fine = not_memory (alone (of_talk y hall) conn).end (ap (λ (e : Option End). is_out_of_memory e) (sym end_is) ∙ enough);
+        fine = λ same. enough (end_is ∙ ap (λ (e : End). Some e) same);
         bytes = ap (λ (t : LinkContents). t.written) (sym (tells_is link follows.tells follows.told)) ∙ follows.bytes;
         consumes = serves.consumes;
         written = left.written ∙ serves.written (inr refl);
@@ -115,7 +109,7 @@ are_known n P (line ∷ lines) all = (all.0.0, are_known n P lines all.1)
 module _ {T G H : Type 0} (x : WorldWords MemWorldState MemLinkState) (l : LinkWords MemLinkState) (y : TalkWords T MemLinkState G H) (hall : H) (shape : Shape) (first : MemWorldState) (conns : List ScriptConn) (ended : Ended MemWorldState MemLinkState)
     (told : x.tells first ≡ told_of conns) (link_told : (link : MemLinkState) → l.tells link ≡ mem_link_tells link)
     (well : ended.verdict ≡ verdict.Ok) (many_served : length ended.served.items ≡ (x.tells first).total) (log : Bool) (many_trails : length ended.trails.items ≡ colours_over (x.tells first).total log)
-    (enough : NoneOutOfMemory ended.served.items) (left : (i : ℕ) (s : Served MemLinkState) (trail : List Event) → slice_get ended.served.items i ≡ Some s → slice_get (map (λ t. t.items) ended.trails.items) (i + 2) ≡ Some trail → ConnLeft x l y hall first i trail s)
+    (enough : (i : ℕ) (s : Served MemLinkState) → slice_get ended.served.items i ≡ Some s → s.end ≢ Some Memory) (left : (i : ℕ) (s : Served MemLinkState) (trail : List Event) → slice_get ended.served.items i ≡ Some s → slice_get (map (λ t. t.items) ended.trails.items) (i + 2) ≡ Some trail → ConnLeft x l y hall first i trail s)
     (follows : (coming : List Coming) (one : Coming) (script : Script) (i : ℕ) (s : Served MemLinkState) (trail : List Event) → (x.tells first).coming ≡ Some coming → slice_get coming i ≡ Some one → one.answers ≡ Some script
     → slice_get ended.served.items i ≡ Some s → slice_get (map (λ t. t.items) ended.trails.items) (i + 2) ≡ Some trail → ConnFollows l y hall i script trail s) where
   total_is : (x.tells first).total ≡ length conns
@@ -145,17 +139,17 @@ module _ {T G H : Type 0} (x : WorldWords MemWorldState MemLinkState) (l : LinkW
   -- ---- its log
 
   -- the lines of each connection are its own
-  lines_are : (run : RunLeft x l y shape hall first log ended) → log ≡ true → (i : ℕ) (conn : ScriptConn) → slice_get conns i ≡ Some conn → lines_for i ended.log.items ≡ log_alone (of_talk y hall) i conn
+  lines_are : (run : HasRun x l y shape hall first log ended) → log ≡ true → (i : ℕ) (conn : ScriptConn) → slice_get conns i ≡ Some conn → lines_for i ended.log.items ≡ log_alone (of_talk y hall) i conn
   lines_are run on i conn at =
       let low = slice_get_within conns i conn at in
       let s = served_at i low in
       let one = serves_all.each i conn s.0 at s.1 in
-      let all : links_owed ended.failed ended.accepted (x.tells first).total ≡ (x.tells first).total = ap (λ (f : Bool). links_owed f ended.accepted (x.tells first).total) (run.ok well).1 in
-      let owed : i < links_owed ended.failed ended.accepted (x.tells first).total = omega (arith, low, all, total_is) in
-      run.lines on (inl well) (map coming_of conns) (coming_of conn) i s.0 (ap (λ (t : WorldContents). t.coming) told) (map_at coming_of conns i conn at) owed s.1
+      let all = run.all_accepted well in
+      let owed : i < ended.accepted = omega (arith, low, all, total_is) in
+      (run.served (λ memory. ok≢memory (sym well ∙ memory)) i s.0 owed s.1).lines on (map coming_of conns) (coming_of conn) (ap (λ (t : WorldContents). t.coming) told) (map_at coming_of conns i conn at)
       ∙ ap (λ (n : ℕ). lines_within n (y.log hall i (input_of (initial_contents (coming_of conn))))) (one.written ∙ ap (λ (b : List ℕ). length b) one.bytes)
 
-  log_is : (run : RunLeft x l y shape hall first log ended) (kept : Bool) → log ≡ kept → IsLog (of_talk y hall) conns kept ended.log.items
+  log_is : (run : HasRun x l y shape hall first log ended) (kept : Bool) → log ≡ kept → IsLog (of_talk y hall) conns kept ended.log.items
   log_is run false is = run.unlogged is
   log_is run true is = record {
     known = subst (λ (n : ℕ). AllByRecursion (λ line. line.conn < n) ended.log.items) total_is (are_known _ _ ended.log.items run.lines_told);
@@ -163,7 +157,7 @@ module _ {T G H : Type 0} (x : WorldWords MemWorldState MemLinkState) (l : LinkW
   }
 
   -- the events of its colour are of the connections of its lines
-  log_ran : (run : RunLeft x l y shape hall first log ended) → log ≡ true → (history : List Entry) → slice_get (histories_of ended) (shard_of run.setup (colour_for (length conns))) ≡ Some history
+  log_ran : (run : HasRun x l y shape hall first log ended) → log ≡ true → (history : List Entry) → slice_get (histories_of ended) (shard_of run.setup (colour_for (length conns))) ≡ Some history
       → map (λ event. event.arg) (ran_of history (colour_for (length conns))) ≡ map (λ line. line.conn) ended.log.items
   log_ran run on history there =
       let many : length ended.trails.items ≡ (x.tells first).total + 2 + 1 = many_trails ∙ ap (colours_over (x.tells first).total) on in
@@ -185,15 +179,15 @@ module _ {T G H : Type 0} (x : WorldWords MemWorldState MemLinkState) (l : LinkW
 
 -- ---- whole runs
 
--- what both ways of running leave
-run_well : {T G H : Type 0} (x : WorldWords MemWorldState MemLinkState) (l : LinkWords MemLinkState) (y : TalkWords T MemLinkState G H) (hall : H) (shape : Shape) (first : MemWorldState) (conns : List ScriptConn) (log : Bool) (ended : Ended MemWorldState MemLinkState)
-    → RunLeft x l y shape hall first log ended → AllFollow x l y hall first ended → x.tells first ≡ told_of conns → ((link : MemLinkState) → l.tells link ≡ mem_link_tells link)
+-- what a run leaves that went well
+has_run_well : {T G H : Type 0} (x : WorldWords MemWorldState MemLinkState) (l : LinkWords MemLinkState) (y : TalkWords T MemLinkState G H) (hall : H) (shape : Shape) (first : MemWorldState) (conns : List ScriptConn) (log : Bool) (ended : Ended MemWorldState MemLinkState)
+    → HasRun x l y shape hall first log ended → x.tells first ≡ told_of conns → ((link : MemLinkState) → l.tells link ≡ mem_link_tells link)
     → ended.verdict ≡ verdict.Ok → RunsWell (of_talk y hall) shape conns log ended
-run_well x l y hall shape first conns log ended run follow told link_told well =
-    let enough = (run.ok well).3 in
+has_run_well x l y hall shape first conns log ended run told link_told well =
+    let enough = run.enough (λ same. ok≢memory (sym well ∙ same)) in
     record {
-      serves = serves_all x l y hall shape first conns ended told link_told well run.many_served log run.many_trails enough run.conn follow;
-      logged = log_is x l y hall shape first conns ended told link_told well run.many_served log run.many_trails enough run.conn follow run log refl;
+      serves = serves_all x l y hall shape first conns ended told link_told well run.many_served log run.many_trails enough run.conn (run.follows well);
+      logged = log_is x l y hall shape first conns ended told link_told well run.many_served log run.many_trails enough run.conn (run.follows well) run log refl;
       served = record {
         setup = run.setup;
         rules = run.rules;
@@ -201,24 +195,16 @@ run_well x l y hall shape first conns log ended run follow told link_told well =
         shards = run.shards;
         legal = run.legal;
         drained = run.drained (λ same. ok≢memory (sym well ∙ same));
-        paths = path_ran x l y hall shape first conns ended told link_told well run.many_served log run.many_trails enough run.conn follow run.setup run.trailed;
-        logged = log_ran x l y hall shape first conns ended told link_told well run.many_served log run.many_trails enough run.conn follow run;
+        paths = path_ran x l y hall shape first conns ended told link_told well run.many_served log run.many_trails enough run.conn (run.follows well) run.setup run.trailed;
+        logged = log_ran x l y hall shape first conns ended told link_told well run.many_served log run.many_trails enough run.conn (run.follows well) run;
       };
     }
 
-pub threads_run_well : {T G H : Type 0} (x : WorldWords MemWorldState MemLinkState) (l : LinkWords MemLinkState) (y : TalkWords T MemLinkState G H) (hall : H) (shape : Shape) (first : MemWorldState) (conns : List ScriptConn) (log : Bool) (ended : Ended MemWorldState MemLinkState)
-    → ThreadsLeave x l y shape hall first log ended → x.tells first ≡ told_of conns → ((link : MemLinkState) → l.tells link ≡ mem_link_tells link)
+pub run_well : {T G H : Type 0} (x : WorldWords MemWorldState MemLinkState) (l : LinkWords MemLinkState) (y : TalkWords T MemLinkState G H) (hall : H) (shape : Shape) (first : MemWorldState) (conns : List ScriptConn) (log : Bool) (ended : Ended MemWorldState MemLinkState)
+    → ServerLeaves x l y shape hall first log ended → x.tells first ≡ told_of conns → ((link : MemLinkState) → l.tells link ≡ mem_link_tells link)
     → ended.verdict ≡ verdict.Ok → RunsWell (of_talk y hall) shape conns log ended
-threads_run_well x l y hall shape first conns log ended (inl refused) told link_told well = absurd (ok≢memory (sym well ∙ refused.refused))
-threads_run_well x l y hall shape first conns log ended (inr run) told link_told well =
-    run_well x l y hall shape first conns log ended run.left (run.follows well) told link_told well
-
-pub steps_run_well : {T G H : Type 0} (x : WorldWords MemWorldState MemLinkState) (l : LinkWords MemLinkState) (y : TalkWords T MemLinkState G H) (hall : H) (shape : Shape) (first : MemWorldState) (conns : List ScriptConn) (log : Bool) (ended : Ended MemWorldState MemLinkState)
-    → StepsLeave x l y shape hall first log ended → x.tells first ≡ told_of conns → ((link : MemLinkState) → l.tells link ≡ mem_link_tells link)
-    → ended.verdict ≡ verdict.Ok → RunsWell (of_talk y hall) shape conns log ended
-steps_run_well x l y hall shape first conns log ended (inl refused) told link_told well = absurd (ok≢memory (sym well ∙ refused.refused))
-steps_run_well x l y hall shape first conns log ended (inr run) told link_told well =
-    run_well x l y hall shape first conns log ended run.left (run.follows well) told link_told well
+run_well x l y hall shape first conns log ended (inl refused) told link_told well = absurd (ok≢memory (sym well ∙ refused.refused))
+run_well x l y hall shape first conns log ended (inr run) told link_told well = has_run_well x l y hall shape first conns log ended run told link_told well
 
 -- a scripted world doesn't fail
 no_fault : (x : WorldWords MemWorldState MemLinkState) (l : LinkWords MemLinkState) (first : MemWorldState) (conns : List ScriptConn) (ended : Ended MemWorldState MemLinkState) → x.tells first ≡ told_of conns → IsSome ended.world → ended.failed ≡ true
@@ -233,26 +219,15 @@ world≢memory same = cc
 apart≢memory : (conn : ℕ) → verdict.Apart conn ≢ verdict.Memory
 apart≢memory conn same = cc
 
-threads_keep_the_world : {T G H : Type 0} (x : WorldWords MemWorldState MemLinkState) (l : LinkWords MemLinkState) (y : TalkWords T MemLinkState G H) (hall : H) (shape : Shape) (first : MemWorldState) (conns : List ScriptConn) (log : Bool) (ended : Ended MemWorldState MemLinkState)
-    → ThreadsLeave x l y shape hall first log ended → x.tells first ≡ told_of conns → ended.verdict ≡ verdict.World → ⊥
-threads_keep_the_world x l y hall shape first conns log ended (inl refused) told gone = world≢memory (sym gone ∙ refused.refused)
-threads_keep_the_world x l y hall shape first conns log ended (inr run) told gone = no_fault x l first conns ended told (run.world gone).0 (run.world gone).1 run.stands
+keeps_the_world : {T G H : Type 0} (x : WorldWords MemWorldState MemLinkState) (l : LinkWords MemLinkState) (y : TalkWords T MemLinkState G H) (hall : H) (shape : Shape) (first : MemWorldState) (conns : List ScriptConn) (log : Bool) (ended : Ended MemWorldState MemLinkState)
+    → ServerLeaves x l y shape hall first log ended → x.tells first ≡ told_of conns → ended.verdict ≡ verdict.World → ⊥
+keeps_the_world x l y hall shape first conns log ended (inl refused) told gone = world≢memory (sym gone ∙ refused.refused)
+keeps_the_world x l y hall shape first conns log ended (inr run) told gone = no_fault x l first conns ended told (run.held (λ same. world≢memory (sym gone ∙ same))) (run.failed gone) run.stands
 
-steps_keep_the_world : {T G H : Type 0} (x : WorldWords MemWorldState MemLinkState) (l : LinkWords MemLinkState) (y : TalkWords T MemLinkState G H) (hall : H) (shape : Shape) (first : MemWorldState) (conns : List ScriptConn) (log : Bool) (ended : Ended MemWorldState MemLinkState)
-    → StepsLeave x l y shape hall first log ended → x.tells first ≡ told_of conns → ended.verdict ≡ verdict.World → ⊥
-steps_keep_the_world x l y hall shape first conns log ended (inl refused) told gone = world≢memory (sym gone ∙ refused.refused)
-steps_keep_the_world x l y hall shape first conns log ended (inr run) told gone = no_fault x l first conns ended told (run.world gone).0 (run.world gone).1 run.stands
-
--- neither threads nor a weave miss anything
-threads_miss_nothing : {T G H : Type 0} (x : WorldWords MemWorldState MemLinkState) (l : LinkWords MemLinkState) (y : TalkWords T MemLinkState G H) (hall : H) (shape : Shape) (first : MemWorldState) (log : Bool) (ended : Ended MemWorldState MemLinkState)
-    → ThreadsLeave x l y shape hall first log ended → (conn : ℕ) → ended.verdict ≡ verdict.Apart conn → ⊥
-threads_miss_nothing x l y hall shape first log ended (inl refused) conn apart = apart≢memory conn (sym apart ∙ refused.refused)
-threads_miss_nothing x l y hall shape first log ended (inr run) conn apart = run.never_apart conn apart
-
-steps_miss_nothing : {T G H : Type 0} (x : WorldWords MemWorldState MemLinkState) (l : LinkWords MemLinkState) (y : TalkWords T MemLinkState G H) (hall : H) (shape : Shape) (first : MemWorldState) (log : Bool) (ended : Ended MemWorldState MemLinkState)
-    → StepsLeave x l y shape hall first log ended → (conn : ℕ) → ended.verdict ≡ verdict.Apart conn → ⊥
-steps_miss_nothing x l y hall shape first log ended (inl refused) conn apart = apart≢memory conn (sym apart ∙ refused.refused)
-steps_miss_nothing x l y hall shape first log ended (inr run) conn apart = run.never_apart conn apart
+misses_nothing : {T G H : Type 0} (x : WorldWords MemWorldState MemLinkState) (l : LinkWords MemLinkState) (y : TalkWords T MemLinkState G H) (hall : H) (shape : Shape) (first : MemWorldState) (log : Bool) (ended : Ended MemWorldState MemLinkState)
+    → ServerLeaves x l y shape hall first log ended → (conn : ℕ) → ended.verdict ≡ verdict.Apart conn → ⊥
+misses_nothing x l y hall shape first log ended (inl refused) conn apart = apart≢memory conn (sym apart ∙ refused.refused)
+misses_nothing x l y hall shape first log ended (inr run) conn apart = run.never_apart conn apart
 
 loses_nothing : (v : Verdict) → (v ≡ verdict.World → ⊥) → ((conn : ℕ) → v ≡ verdict.Apart conn → ⊥) → HasLostNothing v
 loses_nothing verdict.Ok world apart = tt
@@ -260,15 +235,10 @@ loses_nothing verdict.World world apart = world refl
 loses_nothing (verdict.Apart conn) world apart = apart conn refl
 loses_nothing verdict.Memory world apart = tt
 
-pub threads_lose_nothing : {T G H : Type 0} (x : WorldWords MemWorldState MemLinkState) (l : LinkWords MemLinkState) (y : TalkWords T MemLinkState G H) (hall : H) (shape : Shape) (first : MemWorldState) (conns : List ScriptConn) (log : Bool) (ended : Ended MemWorldState MemLinkState)
-    → ThreadsLeave x l y shape hall first log ended → x.tells first ≡ told_of conns → HasLostNothing ended.verdict
-threads_lose_nothing x l y hall shape first conns log ended leaves told =
-    loses_nothing ended.verdict (threads_keep_the_world x l y hall shape first conns log ended leaves told) (threads_miss_nothing x l y hall shape first log ended leaves)
-
-pub steps_lose_nothing : {T G H : Type 0} (x : WorldWords MemWorldState MemLinkState) (l : LinkWords MemLinkState) (y : TalkWords T MemLinkState G H) (hall : H) (shape : Shape) (first : MemWorldState) (conns : List ScriptConn) (log : Bool) (ended : Ended MemWorldState MemLinkState)
-    → StepsLeave x l y shape hall first log ended → x.tells first ≡ told_of conns → HasLostNothing ended.verdict
-steps_lose_nothing x l y hall shape first conns log ended leaves told =
-    loses_nothing ended.verdict (steps_keep_the_world x l y hall shape first conns log ended leaves told) (steps_miss_nothing x l y hall shape first log ended leaves)
+pub lose_nothing : {T G H : Type 0} (x : WorldWords MemWorldState MemLinkState) (l : LinkWords MemLinkState) (y : TalkWords T MemLinkState G H) (hall : H) (shape : Shape) (first : MemWorldState) (conns : List ScriptConn) (log : Bool) (ended : Ended MemWorldState MemLinkState)
+    → ServerLeaves x l y shape hall first log ended → x.tells first ≡ told_of conns → HasLostNothing ended.verdict
+lose_nothing x l y hall shape first conns log ended leaves told =
+    loses_nothing ended.verdict (keeps_the_world x l y hall shape first conns log ended leaves told) (misses_nothing x l y hall shape first log ended leaves)
 
 -- what is given is the run that went well, and want of memory comes where the run met it
 pub given_well : (P : Ended MemWorldState MemLinkState → Type 0) (ended : Ended MemWorldState MemLinkState) (result : Result (Ended MemWorldState MemLinkState) RunFault)

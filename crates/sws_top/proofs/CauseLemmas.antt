@@ -56,7 +56,7 @@ use Rattle.sws_top.specs.Ranges.{run_shape}
 use Rattle.sws_top.specs.Scripts.{LacksInput, HasNoInput}
 use Rattle.sws_top.specs.Sites.{LacksSite, HasNoSite, TellsWithinLimits}
 use Rattle.sws_top.specs.Texts.{WritesText}
-use Rattle.sws_top.proofs.ServeLemmas.{never_lost}
+use Rattle.sws_top.proofs.ServeLemmas.{held_of, never_lost, rose_of}
 
 -- ---- one object after another
 
@@ -344,8 +344,8 @@ module _ {F R W L O T G H : Type 0} (f : FolderWords F) (r : SourceWords R) (x :
       read = λ failed. absurd (let other : Some WorldFault ≡ Some ReadFault = sym ends.0 ∙ failed in cc);
       no_read = λ _. (folder, source);
       write = HasCause-none (o.faults before.out) (o.faults now.out) (outcome.fault ≡ Some WriteFault) (ap o.faults ends.1) (λ failed. (let other : Some WorldFault ≡ Some WriteFault = sym ends.0 ∙ failed in cc));
-      world_failed = λ _. let last = some_there served.ended.world (served.held (inr is)) in
-          (last.0, inr (served.ended, served.there, last.1), served.rose last.0 last.1 is);
+      world_failed = λ _. let last = some_there served.ended.world (held_of x l y shape hall served.first log served.ended served.leaves is) in
+          (last.0, inr (served.ended, served.there, last.1), rose_of x l y shape hall served.first log served.ended world port connections served.listens served.leaves last.0 last.1 is);
       lost = λ conn. (
         λ lost. absurd (let other : Some WorldFault ≡ Some (Apart conn) = sym ends.0 ∙ lost in cc),
         λ lost. absurd (let other = one_verdict conn verdict.World is lost in cc),
@@ -379,8 +379,8 @@ module _ {F R W L O T G H : Type 0} (f : FolderWords F) (r : SourceWords R) (x :
             by_answer (Err run_fault.Write) ended rose = absurd (unfailed (rose refl))
             by_answer (Err run_fault.Memory) ended rose = inr ended
     served_done verdict.World is ends nothing =
-        let last = some_there served.ended.world (served.held (inr is)) in
-        absurd (nothing.last last.0 (inr (served.ended, served.there, last.1)) (served.rose last.0 last.1 is))
+        let last = some_there served.ended.world (held_of x l y shape hall served.first log served.ended served.leaves is) in
+        absurd (nothing.last last.0 (inr (served.ended, served.there, last.1)) (rose_of x l y shape hall served.first log served.ended world port connections served.listens served.leaves last.0 last.1 is))
     served_done (verdict.Apart conn) is ends nothing = absurd (never_lost x l y shape hall served.first log served.ended conn served.leaves is)
     served_done verdict.Memory is ends nothing = inr ends.0
 

@@ -1,7 +1,7 @@
 -- What `serve` may call, and what it leaves.
-use Rattle.std.specs.Prelude.{Err, is_some}
+use Rattle.std.specs.Prelude.{Err}
 use Rattle.std.specs.List.{fold, cons_option, AllByRecursion, slice_get}
-use Rattle.std.proofs.Common.{◌≡◌, ◌≢◌, ◌⊎◌, inl, inr, ℕ, zero, suc, ◌+◌, ◌*◌, ◌<◌, ◌≤◌, false, List, [], ◌∷◌, ◌++◌, length, map, Option, Some, None, IsSome, refl, sym, ap, ◌∙◌, subst, arith, append-nil, Bool}
+use Rattle.std.proofs.Common.{◌≡◌, ◌≢◌, inl, inr, ℕ, zero, suc, ◌+◌, ◌*◌, ◌<◌, ◌≤◌, List, [], ◌∷◌, ◌++◌, length, map, Option, Some, None, IsSome, refl, sym, ap, ◌∙◌, subst, arith, append-nil, Bool}
 use Rattle.std.specs.Prelude.{sum_by}
 use Rattle.std.proofs.Math.Nat.{mul-suc}
 use Rattle.std.proofs.lemmas.Option.{slice_get_within}
@@ -20,8 +20,7 @@ use Rattle.sws_steps.specs.declared.End.{End}
 use Rattle.sws_steps.specs.declared.End.TheVariants as ending
 use Rattle.sws_steps.specs.declared.talk.Talk.{Ghosts as TalkWords}
 use Rattle.sws_engine.specs.Counting.{colours_over}
-use Rattle.sws_engine.specs.RunLeaves.{NoneOutOfMemory, is_out_of_memory}
-use Rattle.sws_engine.specs.ThreadsLeave.{ThreadsLeave, HasRunThreads}
+use Rattle.sws_engine.specs.ServerLeaves.{ServerLeaves, HasRun}
 use Rattle.sws_engine.specs.declared.ended.Ended.{Ended}
 use Rattle.sws_engine.specs.declared.ended.Served.{Served}
 use Rattle.sws_engine.specs.declared.ended.Verdict.TheVariants as verdict
@@ -47,11 +46,14 @@ module _ {W L : Type 0} (x : WorldWords W L) (before : W) (port connections : �
   pub opened_few : connections ≤ 1024 → (x.tells first).total ≤ 1024
   opened_few few = let most = total_few (x.tells before).coming connections in omega (arith, opened_total)
 
-  opened_port : (x.tells first).port ≡ port
-  opened_port = ap (λ (t : WorldContents). t.port) listens.becomes
-
   opened_faults : x.faults first ≡ x.faults before
   opened_faults = listens.failed.stays (λ e. cc)
+
+ok≢memory : verdict.Ok ≢ verdict.Memory
+ok≢memory same = cc
+
+world≢memory : verdict.World ≢ verdict.Memory
+world≢memory same = cc
 
 -- ---- sums over what was served
 
@@ -81,21 +83,18 @@ get_in [] i within = absurd (omega arith)
 get_in (x ∷ xs) zero within = (x, refl)
 get_in (x ∷ xs) (suc i) within = get_in xs i (omega arith)
 
-none_refused : {L : Type 0} (served : List (Served L)) → NoneOutOfMemory served → AllByRecursion (λ end. end ≢ ending.Memory) (ends_of served)
+none_refused : {L : Type 0} (served : List (Served L)) → ((i : ℕ) (s : Served L) → slice_get served i ≡ Some s → s.end ≢ Some ending.Memory) → AllByRecursion (λ end. end ≢ ending.Memory) (ends_of served)
 none_refused [] none = tt
 none_refused (s ∷ served) none =
     by_end s.end (none 0 s refl) (none_refused served (λ i t is. none (suc i) t is))
   where
-    by_end : (end : Option End) → is_out_of_memory end ≡ false → AllByRecursion (λ end. end ≢ ending.Memory) (ends_of served)
+    by_end : (end : Option End) → end ≢ Some ending.Memory → AllByRecursion (λ end. end ≢ ending.Memory) (ends_of served)
         → AllByRecursion (λ end. end ≢ ending.Memory) (cons_option end (ends_of served))
     by_end None fine rest = rest
-    by_end (Some ending.Done) fine rest = (λ e. cc, rest)
-    by_end (Some ending.Idle) fine rest = (λ e. cc, rest)
-    by_end (Some ending.Fault) fine rest = (λ e. cc, rest)
-    by_end (Some ending.Memory) fine rest = cc
+    by_end (Some end) fine rest = (λ same. fine (ap (λ e. Some e) same), rest)
 
 module _ {W L T G H : Type 0} (x : WorldWords W L) (l : LinkWords L) (y : TalkWords T L G H) (shape : Shape) (hall : H) (first : W) (log : Bool) (ended : Ended W L) where
-  sums : HasRunThreads x l y shape hall first log ended → (x.tells first).total ≤ 1024 → ended.verdict ≡ verdict.Ok → CanSumUp ended.served.items
+  sums : HasRun x l y shape hall first log ended → (x.tells first).total ≤ 1024 → ended.verdict ≡ verdict.Ok → CanSumUp ended.served.items
   sums run few ok =
       let many = run.many_served in
       let trails = map (λ t. t.items) ended.trails.items in
@@ -108,54 +107,46 @@ module _ {W L T G H : Type 0} (x : WorldWords W L) (l : LinkWords L) (y : TalkWo
       let within = slice_get_within ended.served.items i s is in
       let trail = get_in trails (i + 2) (omega arith) in
       let less = (run.conn i s trail.0 is trail.1).few_written in omega arith) in
-      record { ends = none_refused ended.served.items (run.ok ok).3; read = omega arith; written = omega arith }
+      record { ends = none_refused ended.served.items (run.enough (λ same. ok≢memory (sym ok ∙ same))); read = omega arith; written = omega arith }
 
   -- at the verdict Ok all can be summed up
-  pub can_sum_up : ThreadsLeave x l y shape hall first log ended → (x.tells first).total ≤ 1024 → ended.verdict ≡ verdict.Ok → CanSumUp ended.served.items
+  pub can_sum_up : ServerLeaves x l y shape hall first log ended → (x.tells first).total ≤ 1024 → ended.verdict ≡ verdict.Ok → CanSumUp ended.served.items
   can_sum_up (inl begun) few ok = (let other : verdict.Ok ≡ verdict.Memory = sym ok ∙ begun.refused in cc)
   can_sum_up (inr run) few ok = sums run few ok
 
-  module _ {O : Type 0} (o : SinkWords O) (out out_now : O) (world : W) (outcome : Outcome W L) (port connections : ℕ)
-      (listens : Listens x.tells x.faults x.waits world port connections opened.Ready first) where
-    pub served_by : ThreadsLeave x l y shape hall first log ended → outcome.ended ≡ Some ended → outcome.world ≡ None
+  -- a world that failed is handed out
+  pub held_of : ServerLeaves x l y shape hall first log ended → ended.verdict ≡ verdict.World → IsSome ended.world
+  held_of (inl begun) failed = (let other : verdict.World ≡ verdict.Memory = sym failed ∙ begun.refused in cc)
+  held_of (inr run) failed = run.held (λ same. world≢memory (sym failed ∙ same))
+
+  module _ (world : W) (port connections : ℕ) (listens : Listens x.tells x.faults x.waits world port connections opened.Ready first) where
+    -- and its count of faults rose
+    pub rose_of : ServerLeaves x l y shape hall first log ended → (last : W) → ended.world ≡ Some last → ended.verdict ≡ verdict.World → Rose (x.faults world) (x.faults last)
+    rose_of (inl begun) last is failed = (let other : verdict.World ≡ verdict.Memory = sym failed ∙ begun.refused in cc)
+    rose_of (inr run) last is failed =
+        subst (λ count. Rose count (x.faults last)) (opened_faults x world port connections first listens)
+        ((run.stands last is).failed (run.failed failed))
+
+    many_of : ServerLeaves x l y shape hall first log ended → ended.verdict ≢ verdict.Memory → length ended.served.items ≡ total_within (x.tells world).coming connections
+    many_of (inl begun) run = absurd (run begun.refused)
+    many_of (inr ran) run = ran.many_served ∙ opened_total x world port connections first listens
+
+    pub served_by : {O : Type 0} (o : SinkWords O) (out out_now : O) (outcome : Outcome W L) → ServerLeaves x l y shape hall first log ended → outcome.ended ≡ Some ended → outcome.world ≡ None
         → EndsBy o out out_now outcome.fault ended.log.items ended.served.items ended.verdict → HasServedPort x l o y out out_now world outcome port connections shape log hall
-    served_by leaves there gone ends = record {
+    served_by o out out_now outcome leaves there gone ends = record {
       first = first;
       listens = listens;
       ended = ended;
       there = there;
       gone = gone;
       leaves = leaves;
-      port_is = λ last is. port_by leaves last is;
-      rose = λ last is failed. rose_by leaves last is failed;
-      held = λ well. held_by leaves well;
-      many = λ run. many_by leaves run;
+      many = λ run. many_of leaves run;
       ends = ends;
     }
-      where
-        port_by : ThreadsLeave x l y shape hall first log ended → (last : W) → ended.world ≡ Some last → (x.tells last).port ≡ port
-        port_by (inl begun) last is =
-            let same : first ≡ last = (let e = begun.back in cc) in ap (λ w. (x.tells w).port) (sym same) ∙ opened_port x world port connections first listens
-        port_by (inr run) last is = (run.stands last is).port ∙ opened_port x world port connections first listens
-
-        rose_by : ThreadsLeave x l y shape hall first log ended → (last : W) → ended.world ≡ Some last → ended.verdict ≡ verdict.World → Rose (x.faults world) (x.faults last)
-        rose_by (inl begun) last is failed = (let other : verdict.World ≡ verdict.Memory = sym failed ∙ begun.refused in cc)
-        rose_by (inr run) last is failed =
-            subst (λ count. Rose count (x.faults last)) (opened_faults x world port connections first listens)
-            ((run.stands last is).failed (run.world failed).1)
-
-        held_by : ThreadsLeave x l y shape hall first log ended → (ended.verdict ≡ verdict.Ok) ⊎ (ended.verdict ≡ verdict.World) → IsSome ended.world
-        held_by (inl begun) well = ap is_some begun.back
-        held_by (inr run) (inl ok) = (run.ok ok).0
-        held_by (inr run) (inr failed) = (run.world failed).0
-
-        many_by : ThreadsLeave x l y shape hall first log ended → ended.verdict ≢ verdict.Memory → length ended.served.items ≡ total_within (x.tells world).coming connections
-        many_by (inl begun) run = absurd (run begun.refused)
-        many_by (inr ran) run = ran.many_served ∙ opened_total x world port connections first listens
 
 -- a run on threads loses no connection
 pub never_lost : {W L T G H : Type 0} (x : WorldWords W L) (l : LinkWords L) (y : TalkWords T L G H) (shape : Shape) (hall : H) (first : W) (log : Bool) (ended : Ended W L) (conn : ℕ)
-    → ThreadsLeave x l y shape hall first log ended → ended.verdict ≢ verdict.Apart conn
+    → ServerLeaves x l y shape hall first log ended → ended.verdict ≢ verdict.Apart conn
 never_lost x l y shape hall first log ended conn (inl begun) is = (let other : verdict.Apart conn ≡ verdict.Memory = sym is ∙ begun.refused in cc)
 never_lost x l y shape hall first log ended conn (inr run) is = run.never_apart conn is
 

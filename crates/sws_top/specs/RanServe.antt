@@ -1,8 +1,7 @@
 -- What a run of `serve FOLDER --port P --connections N ..` did.
-use Rattle.std.specs.Prelude.{◌≡◌, ◌≢◌, ◌⊎◌, ◌<◌, ◌^◌, ◌++◌, ℕ, Bool, List, length, sum_by, Option, Some, None, IsSome}
+use Rattle.std.specs.Prelude.{◌≡◌, ◌≢◌, ◌⊎◌, ◌<◌, ◌^◌, ◌++◌, ℕ, Bool, List, length, sum_by, Option, Some, None}
 use Rattle.std.specs.List.{filter_map, AllByRecursion}
 use Rattle.mely_history.specs.declared.shape.Shape.{Shape}
-use Rattle.sws_link.specs.Counts.{Rose}
 use Rattle.sws_link.specs.Worlds.{Listens, total_within}
 use Rattle.sws_link.specs.declared.Folder.{Ghosts as FolderWords}
 use Rattle.sws_link.specs.declared.Link.{Ghosts as LinkWords}
@@ -13,7 +12,7 @@ use Rattle.sws_link.specs.declared.world.World.{Ghosts as WorldWords}
 use Rattle.sws_steps.specs.declared.End.{End}
 use Rattle.sws_steps.specs.declared.End.TheVariants as ending
 use Rattle.sws_steps.specs.declared.talk.Talk.{Ghosts as TalkWords}
-use Rattle.sws_engine.specs.ThreadsLeave.{ThreadsLeave}
+use Rattle.sws_engine.specs.ServerLeaves.{ServerLeaves}
 use Rattle.sws_engine.specs.declared.ended.Ended.{Ended}
 use Rattle.sws_engine.specs.declared.ended.Served.{Served}
 use Rattle.sws_engine.specs.declared.ended.Verdict.{Verdict}
@@ -87,13 +86,7 @@ module _ {W L O T G H : Type 0} (x : WorldWords W L) (l : LinkWords L) (o : Sink
     pub ended : Ended W L
     pub there : outcome.ended ≡ Some ended
     pub gone : outcome.world ≡ None
-    pub leaves : ThreadsLeave x l y shape hall first log ended
-    -- the world that is handed out has the port, and where it failed its count of faults rose; at
-    -- Ok and World it is handed out
-    pub port_is : (last : W) → ended.world ≡ Some last → (x.tells last).port ≡ port
-    pub rose : (last : W) → ended.world ≡ Some last → ended.verdict ≡ verdict.World
-        → Rose (x.faults world) (x.faults last)
-    pub held : (ended.verdict ≡ verdict.Ok) ⊎ (ended.verdict ≡ verdict.World) → IsSome ended.world
+    pub leaves : ServerLeaves x l y shape hall first log ended
     -- there is a member for each connection, or for each input that the world
     -- told where these were fewer
     pub many : ended.verdict ≢ verdict.Memory

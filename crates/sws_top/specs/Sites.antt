@@ -4,6 +4,7 @@ use Rattle.sws_link.specs.Counts.{Rose, IsLater}
 use Rattle.sws_link.specs.Told.{FolderContents}
 use Rattle.sws_link.specs.declared.Folder.{Ghosts as FolderWords}
 use Rattle.sws_site.specs.Limits.{IsWithinLimits, limit_of}
+use Rattle.sws_site.specs.Options.{plain_options}
 use Rattle.sws_site.specs.Site.{SiteState, IsDateAt}
 use Rattle.sws_top.specs.declared.faults.TopFault.{TopFault}
 use Rattle.sws_top.specs.declared.faults.TopFault.TheVariants.{ReadFault, Memory, SiteFull}
@@ -27,10 +28,11 @@ TellsWithinLimits (Some folder) = IsWithinLimits folder.files
 
 module _ {F : Type 0} (f : FolderWords F) (path : List ℕ) (folder now : F) where
   -- The folder was opened with the path, and the site has the files that it tells, in its order,
-  -- and the date; they meet no limit.
+  -- and the date; they meet no limit, and the site does nothing beyond sending them.
   pub record IsLoaded (date : Option ℕ) (site : SiteState) : Type 0 where
     pub date_is : IsDateAt date site.date
     pub files : (told : FolderContents) → f.tells folder ≡ Some told → site.files ≡ told.files
+    pub plain : site.options ≡ plain_options
     pub within : (told : FolderContents) → f.tells folder ≡ Some told → limit_of told.files ≡ None
     pub opened : OpensAt path (f.tells folder) (f.tells now)
     pub no_fault : f.faults now ≡ f.faults folder

@@ -15,10 +15,30 @@ use Rattle.sws_engine.specs.declared.place.Role.TheVariants.{Polling, Accepting,
 use Rattle.sws_engine.specs.Place.{PlaceState}
 use Rattle.sws_engine.specs.Handling.{is_some}
 use Rattle.sws_engine.specs.RunStands.{if_held, is_any, is_beyond, is_unended, at_desk, at_seat, first_number, due_number, is_stray, misplaced_at, misplaced_count, desks, seats, strays, RunStands}
-use Rattle.sws_engine.specs.RunEnds.{IsPlacedAs, RunEnds}
+use Rattle.sws_engine.specs.PartsKept.{IsPlacedAs}
 use Rattle.mely_tally.proofs.SumsLemmas.{sum_member}
 use Rattle.sws_engine.proofs.Balances.BalanceLemmas.{others, others_none, sum_split}
 use Rattle.sws_engine.specs.Counting.{bit, times}
+
+-- no event of the connection was stray; where its link was accepted it was served to its close, and
+-- else it was never opened
+pub record ConnEnds {T L G H : Type 0} (y : TalkWords T L G H) (accepted i : ℕ)
+    (seat : Seat T) : Type 0 where
+  pub no_stray : seat.stray ≡ None
+  pub closed : i < accepted → due (y.view_of seat.talk) ≡ None
+  pub unopened : accepted ≤ i → due_number y seat ≡ 3
+
+-- the world rests at colour 0: all links were accepted or it has failed, nobody waits, and
+-- each connection has ended
+pub record RunEnds {W L T G H : Type 0} (y : TalkWords T L G H) (total : ℕ)
+    (states : List (PlaceState H W T)) (desk : Desk W) : Type 0 where
+  pub held : WorldLoad W
+  pub rests : desk.resting ≡ Some held
+  pub nobody : desk.waiting.items ≡ []
+  pub ended : is_unended total held ≡ false
+  pub conn : (i : ℕ) (place : PlaceState H W T) (seat : Seat T) → i < total
+      → slice_get states (i + 2) ≡ Some place → place.role ≡ Talking seat
+      → ConnEnds y held.accepted i seat
 
 -- a state among all
 pub record Among {X : Type 0} (xs : List X) (s : X) : Type 0 where

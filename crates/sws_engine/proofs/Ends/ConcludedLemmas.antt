@@ -31,9 +31,9 @@ use Rattle.sws_engine.specs.declared.load.Load.{Load}
 use Rattle.sws_engine.specs.declared.load.Load.TheVariants as load
 use Rattle.sws_engine.specs.KeptLines.{KeptLinesState, AreKept, no_lines}
 use Rattle.sws_engine.specs.Place.{PlaceState}
-use Rattle.sws_engine.specs.RunEnds.{IsPlacedAs}
+use Rattle.sws_engine.specs.PartsKept.{IsPlacedAs}
 use Rattle.sws_engine.specs.ServerRun.{server_rules, handler_rows}
-use Rattle.sws_engine.specs.RunFits.{CarriesStanding, RunFits}
+use Rattle.sws_engine.specs.RunFits.{RunFits}
 use Rattle.sws_link.specs.Contents.{IsPrefix}
 use Rattle.sws_link.specs.Scripts.{Script}
 use Rattle.sws_link.specs.Worlds.{Coming, initial_contents}
@@ -44,7 +44,7 @@ use Rattle.sws_engine.specs.Served.{SeatServes, ServedBy, OnPath}
 use Rattle.sws_steps.specs.declared.Handler.{Handler}
 use Rattle.sws_conn.specs.Outcome.{UnlessMemory}
 use Rattle.sws_conn.specs.Path.{TakesOff}
-use Rattle.sws_engine.specs.Invariant.{event_for}
+use Rattle.sws_engine.specs.Tasks.{event_for}
 use Rattle.sws_engine.specs.Counting.{colours_over}
 use Rattle.sws_log.specs.declared.line.LogLine.{LogLine}
 use Rattle.sws_engine.specs.Loads.{IsComing, IsLineIn}
@@ -54,7 +54,8 @@ use Rattle.sws_link.specs.Links.{LinkContents, input_of}
 use Rattle.sws_log.specs.Lines.{lines_within}
 use Rattle.sws_steps.specs.Talks.{LinesServed, LinesOf}
 use Rattle.sws_engine.specs.LogTurns.{lines_for, turns_of, is_numbered}
-use Rattle.sws_engine.proofs.Ends.LogTurnsLemmas.{IsOfLog, numbered_are, lines_are}
+use Rattle.sws_engine.specs.ServerLeaves.{IsServed}
+use Rattle.sws_engine.proofs.Ends.LogTurnsLemmas.{IsOfLog, numbered_are, lines_are, turns_are}
 use Rattle.sws_engine.specs.Invariant.{LogStands}
 use Rattle.sws_engine.specs.Handling.{conn_of}
 use Rattle.sws_engine.specs.declared.place.Seat.{Seat}
@@ -66,7 +67,7 @@ use Rattle.sws_engine.specs.Handing.{place_link, served_with_load, served_with_l
 use Rattle.sws_engine.specs.Conclusion.{is_empty, ran_all, is_whole, accepted_of, failed_of, ways_of, world_found, IsConcluded}
 use Rattle.sws_engine.proofs.Ends.InitialServedLemmas.{initial_served}
 use Rattle.sws_engine.proofs.Paths.ScriptFollowedLemmas.{followed}
-use Rattle.sws_engine.proofs.Ends.HandedLemmas.{GotLink, ways_stand, world_stands, served_given}
+use Rattle.sws_engine.proofs.Ends.HandedLemmas.{CarriesStanding, GotLink, ways_stand, world_stands, served_given}
 use Rattle.sws_engine.proofs.Ends.SeatsOfRunLemmas.{SeatsStand, seats_stand}
 
 -- a setup of the shape with the server's handlers has the server's rules
@@ -248,6 +249,10 @@ has_end : {A : Type 0} (a : Bool) (o : Option A) (c : Bool) → (a || is_none o)
 has_end a (Some e) c whole = refl
 has_end true None c whole = cc
 has_end false None c whole = cc
+
+has_link : {A : Type 0} (o : Option A) (b c : Bool) → (is_none o || b) || c ≡ false → IsSome o
+has_link (Some link) b c whole = refl
+has_link None b c whole = cc
 
 no_more : {A : Type 0} (a : Bool) (o : Option A) → a || is_some o ≡ false → o ≡ None
 no_more a None whole = refl
@@ -454,3 +459,16 @@ module _ {W L T G H : Type 0} (x : WorldWords W L) (l : LinkWords L) (y : TalkWo
       ∙ ap (λ (n : ℕ). take n (y.log hall i (input_of (initial_contents one)))) left.answered
       ∙ given.lines
       ∙ ap (λ (n : ℕ). lines_within n (y.log hall i (input_of (initial_contents one)))) (sym left.written)
+
+  -- a connection that isn't lost was served
+  pub is_served : (i : ℕ) (s : Served L) → slice_get ended.served.items i ≡ Some s → is_lost (lines_kept log ended.log.items) i s ≡ false → IsServed x l y hall first ended log i s
+  is_served i s there whole =
+      let lacks = no_lack (is_lacking s) (is_out_of_turn (lines_kept log ended.log.items) i s) whole in
+      let turns = no_turn (is_lacking s) (is_out_of_turn (lines_kept log ended.log.items) i s) whole in
+      record {
+        has_link = has_link s.link (is_none s.end) (is_some s.stray) lacks;
+        has_end = has_end (is_none s.link) s.end (is_some s.stray) lacks;
+        no_stray = no_more (is_none s.link || is_none s.end) s.stray lacks;
+        in_turn = λ on. turns_are i ended.log.items ∙ in_turn s.answered i s on turns;
+        lines = λ on coming one known at. lines_of on coming one i s known at there whole;
+      }

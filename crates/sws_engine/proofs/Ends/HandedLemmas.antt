@@ -21,7 +21,7 @@ use Rattle.sws_engine.specs.Tasks.{task_of}
 use Rattle.sws_engine.specs.Loads.{Fit, TaskFits, WorldStands, LinkStands}
 use Rattle.sws_engine.specs.Place.{PlaceState}
 use Rattle.sws_engine.specs.Handing.{give_link, place_link, served_with_load, world_with_load, served_with_loads, world_with_loads}
-use Rattle.sws_engine.specs.RunFits.{CarriesStanding, RunFits}
+use Rattle.sws_engine.specs.RunFits.{RunFits}
 use Rattle.sws_engine.specs.RunLeaves.{or_else}
 use Rattle.sws_engine.proofs.Events.WaitingListsLemmas.{each_append}
 
@@ -29,8 +29,16 @@ module _ {W L : Type 0} (x : WorldWords W L) (l : LinkWords L) (first : W) where
   abbrev Way : Type 0
   Way = Event × Option (Load W L)
 
+  -- what an event carries: the world of the run, or the link of the connection
+  -- to which nothing was done
+  abbrev pub CarriesStanding : ℕ → Option (Load W L) → Type 0
+  CarriesStanding i None = Unit {0}
+  CarriesStanding i (Some (load.World held)) = WorldStands x l first held
+  CarriesStanding i (Some (load.Link link)) = LinkStands x l first i link
+  CarriesStanding i (Some (load.Line line)) = Unit {0}
+
   -- what an event that fits carries stands
-  carried_by_task : (c : Colour) (arg : ℕ) (which : Option Task) (carried : Option (Load W L)) → TaskFits x l first c arg which carried → CarriesStanding x l first arg carried
+  carried_by_task : (c : Colour) (arg : ℕ) (which : Option Task) (carried : Option (Load W L)) → TaskFits x l first c arg which carried → CarriesStanding arg carried
   carried_by_task c arg which None fit = tt
   carried_by_task c arg (Some task.Poll) (Some (load.World held)) fit = fit.stands
   carried_by_task c arg (Some task.Accept) (Some (load.World held)) fit = fit.stands
@@ -58,7 +66,7 @@ module _ {W L : Type 0} (x : WorldWords W L) (l : LinkWords L) (first : W) where
   carried_by_task c arg (Some task.Log) (Some (load.Link link)) fit = absurd fit
 
   abbrev WayStands : Way → Type 0
-  WayStands e = CarriesStanding x l first e.0.arg e.1
+  WayStands e = CarriesStanding e.0.arg e.1
 
   way_stands : (c : Colour) (e : Way) → Fit x l first c e.0 e.1 → WayStands e
   way_stands c e fit = carried_by_task c e.0.arg (task_of e.0.handler) e.1 fit
@@ -79,18 +87,18 @@ module _ {W L : Type 0} (x : WorldWords W L) (l : LinkWords L) (first : W) where
   lost_stand (put ∷ lost) fit = (way_stands put.0 (put.1, put.2) fit.0, lost_stand lost fit.1)
 
   -- so all of it stands
-  pub ways_stand : {H T : Type 0} (hall : H) (states : List (PlaceState H W T)) (queued : List (List Way)) (lost : List (Colour × Event × Option (Load W L))) → RunFits x l first hall states queued lost → AllByRecursion (λ (e : Way). CarriesStanding x l first e.0.arg e.1) (flat_map (λ events. events) queued ++ carried_by lost)
+  pub ways_stand : {H T : Type 0} (hall : H) (states : List (PlaceState H W T)) (queued : List (List Way)) (lost : List (Colour × Event × Option (Load W L))) → RunFits x l first hall states queued lost → AllByRecursion (λ (e : Way). CarriesStanding e.0.arg e.1) (flat_map (λ events. events) queued ++ carried_by lost)
   ways_stand hall states queued lost fits =
       each_append WayStands (flat_map (λ events. events) queued) (carried_by lost) (queues_stand 0 queued (λ i events at. (let c : Colour = record { 0 = i } in (c, fits.queued c events at)))) (lost_stand lost fits.lost)
 
   -- the world that is found is the one of the run
-  world_load : (i : ℕ) (carried : Option (Load W L)) (world : Option (WorldLoad W)) → CarriesStanding x l first i carried → IfSome world (WorldStands x l first) → IfSome (world_with_load carried world) (WorldStands x l first)
+  world_load : (i : ℕ) (carried : Option (Load W L)) (world : Option (WorldLoad W)) → CarriesStanding i carried → IfSome world (WorldStands x l first) → IfSome (world_with_load carried world) (WorldStands x l first)
   world_load i None world carries stands = stands
   world_load i (Some (load.World held)) world carries stands = carries
   world_load i (Some (load.Link link)) world carries stands = stands
   world_load i (Some (load.Line line)) world carries stands = stands
 
-  pub world_stands : (events : List Way) (world : Option (WorldLoad W)) → AllByRecursion (λ (e : Way). CarriesStanding x l first e.0.arg e.1) events → IfSome world (WorldStands x l first) → IfSome (world_with_loads events world) (WorldStands x l first)
+  pub world_stands : (events : List Way) (world : Option (WorldLoad W)) → AllByRecursion (λ (e : Way). CarriesStanding e.0.arg e.1) events → IfSome world (WorldStands x l first) → IfSome (world_with_loads events world) (WorldStands x l first)
   world_stands [] world all stands = stands
   world_stands (e ∷ events) world all stands = world_stands events (world_with_load e.1 world) all.1 (world_load e.0.arg e.1 world all.0 stands)
 
@@ -120,7 +128,7 @@ module _ {W L : Type 0} (x : WorldWords W L) (l : LinkWords L) (first : W) where
   place_given k zero (suc at) link (s ∷ served) after initial is = (after, is, inl refl)
   place_given k (suc i) (suc at) link (s ∷ served) after initial is = place_given k i at link served after (λ same. initial (ap suc same)) is
 
-  load_given : (i at : ℕ) (carried : Option (Load W L)) (served : List (Served L)) (after : Served L) → CarriesStanding x l first at carried → slice_get (served_with_load at carried served) i ≡ Some after → IsGiven i served after
+  load_given : (i at : ℕ) (carried : Option (Load W L)) (served : List (Served L)) (after : Served L) → CarriesStanding at carried → slice_get (served_with_load at carried served) i ≡ Some after → IsGiven i served after
   load_given i at None served after carries is = record { before = after; there = is; given = inl refl }
   load_given i at (Some (load.World held)) served after carries is = record { before = after; there = is; given = inl refl }
   load_given i at (Some (load.Line line)) served after carries is = record { before = after; there = is; given = inl refl }
@@ -134,7 +142,7 @@ module _ {W L : Type 0} (x : WorldWords W L) (l : LinkWords L) (first : W) where
   onward i a b c (inr got) (inl same) = inr (subst (λ (s : Served L). GotLink i a s) (sym same) got)
   onward i a b c (inr got) (inr again) = let both : Some got.link ≡ None = sym (ap (λ (s : Served L). s.link) got.becomes) ∙ again.none in cc
 
-  pub served_given : (i : ℕ) (events : List Way) (served : List (Served L)) (after : Served L) → AllByRecursion (λ (e : Way). CarriesStanding x l first e.0.arg e.1) events → slice_get (served_with_loads events served) i ≡ Some after → IsGiven i served after
+  pub served_given : (i : ℕ) (events : List Way) (served : List (Served L)) (after : Served L) → AllByRecursion (λ (e : Way). CarriesStanding e.0.arg e.1) events → slice_get (served_with_loads events served) i ≡ Some after → IsGiven i served after
   served_given i [] served after all is = record { before = after; there = is; given = inl refl }
   served_given i (e ∷ events) served after all is =
       let later = served_given i events (served_with_load e.0.arg e.1 served) after all.1 is in

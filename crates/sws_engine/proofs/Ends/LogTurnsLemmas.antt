@@ -1,5 +1,5 @@
 -- Turns that are 1, 2, 3 and so on, and the lines that have them.
-use Rattle.std.proofs.Common.{cond, ◌≡◌, ℕ, zero, suc, ◌+◌, ◌-◌, ◌≤◌, ◌<◌, Bool, true, false, true≢false, if◌then◌else◌, Option, None, Some, List, [], ◌∷◌, ◌++◌, length, take, drop, refl, sym, ◌∙◌, ap, arith, inl, inr, eq-eqb}
+use Rattle.std.proofs.Common.{cond, ◌≡◌, ℕ, zero, suc, ◌+◌, ◌-◌, ◌≤◌, ◌<◌, Bool, true, false, true≢false, if◌then◌else◌, Option, None, Some, List, [], ◌∷◌, ◌++◌, length, map, take, drop, refl, sym, ◌∙◌, ap, arith, inl, inr, eq-eqb}
 use Rattle.std.proofs.lemmas.Bool.{eqb-true, ne_eqb}
 use Rattle.std.proofs.lemmas.Bool.Decides.{eqb_tells}
 use Rattle.std.proofs.lemmas.List.Elements.{filter_map-append}
@@ -113,6 +113,16 @@ numbered_are n turns is =
     c.are ∙ ap (λ (m : ℕ). range_with_len 1 m) same
 
 -- ---- the lines that have these turns
+
+-- the turns of a connection's lines, of these lines alone
+pub turns_are : (i : ℕ) (lines : List LogLine) → map (λ line. line.turn) (lines_for i lines) ≡ turns_of i lines
+turns_are i [] = refl
+turns_are i (line ∷ lines) = for (line.conn == i) (turns_are i lines)
+  where
+    for : (own : Bool) → map (λ line. line.turn) (lines_for i lines) ≡ turns_of i lines
+        → map (λ (line : LogLine). line.turn) (cond own (line ∷ lines_for i lines) (lines_for i lines)) ≡ cons_option (if own then Some line.turn else None) (turns_of i lines)
+    for true rest = ap (λ (ns : List ℕ). line.turn ∷ ns) rest
+    for false rest = rest
 
 drop_at : {A : Type 0} (xs : List A) (k : ℕ) (x : A) → slice_get xs k ≡ Some x → drop k xs ≡ x ∷ drop (suc k) xs
 drop_at [] k x at = cc

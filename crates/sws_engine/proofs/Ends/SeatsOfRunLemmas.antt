@@ -10,7 +10,7 @@ use Rattle.sws_engine.specs.declared.place.Role.{Role}
 use Rattle.sws_engine.specs.declared.place.Role.TheVariants.{Polling, Talking, Logging}
 use Rattle.sws_engine.specs.KeptLines.{KeptLinesState, no_lines}
 use Rattle.sws_engine.specs.Place.{PlaceState}
-use Rattle.sws_engine.specs.RunEnds.{IsPlacedAs}
+use Rattle.sws_engine.specs.PartsKept.{IsPlacedAs}
 use Rattle.sws_engine.specs.RunLeaves.{Talker, talker_by, talkers, or_else, resting_by, resting_in, lines_by, lines_in}
 use Rattle.sws_engine.specs.Counting.{bit, colours_over}
 

@@ -1,6 +1,6 @@
 -- What a run on threads leaves, of the parts of the weave that its fleet was closed into.
 use Rattle.std.proofs.Common.{Some, ◌≡◌, ℕ, Bool, List, [], Option, length, map, refl, sym, ◌∙◌, ap, subst, arith}
-use Rattle.std.specs.Prelude.{slice_get, is_some}
+use Rattle.std.specs.Prelude.{slice_get}
 use Rattle.std.specs.List.{AllByRecursion}
 use Rattle.mely_event.specs.declared.colour.Colour.{Colour}
 use Rattle.mely_event.specs.declared.event.Event.{Event}
@@ -27,22 +27,17 @@ use Rattle.sws_engine.specs.declared.load.Load.{Load}
 use Rattle.sws_engine.specs.declared.place.Frame.{Frame}
 use Rattle.sws_engine.specs.declared.place.Role.{Role}
 use Rattle.sws_engine.specs.declared.place.Role.TheVariants.{Polling, Accepting, Talking, Logging}
-use Rattle.sws_engine.specs.KeptLines.{no_lines}
 use Rattle.sws_engine.specs.Place.{PlaceState}
 use Rattle.sws_engine.specs.Invariant.{RoleStands, IsConsistent}
-use Rattle.sws_engine.specs.RunEnds.{IsPlacedAs}
 use Rattle.sws_engine.specs.ServerRun.{server_rules}
 use Rattle.sws_engine.specs.RunFits.{RunFits}
 use Rattle.sws_engine.specs.Counting.{colours_over}
-use Rattle.sws_engine.specs.RunLeaves.{lines_in, StateTells, lines_kept}
-use Rattle.sws_engine.specs.Conclusion.{is_whole, IsConcluded}
-use Rattle.sws_engine.specs.PartsKept.{PartsKept}
+use Rattle.sws_engine.specs.RunLeaves.{StateTells}
+use Rattle.sws_engine.specs.Conclusion.{IsConcluded}
+use Rattle.sws_engine.specs.PartsKept.{IsPlacedAs, PartsKept}
 use Rattle.sws_engine.specs.CrewEnds.{CrewEnds}
-use Rattle.sws_engine.specs.ThreadsLeave.{HasRunThreads}
 use Rattle.sws_engine.specs.CrewLeaves.{HandlersRan, HasRunCrew}
-use Rattle.sws_engine.proofs.Ends.NeverApartLemmas.{has_run}
-use Rattle.sws_engine.proofs.Ends.RunLeftLemmas.{histories_are, run_left}
-use Rattle.sws_engine.proofs.Ends.ConcludedLemmas.{whole_is, judged}
+use Rattle.sws_engine.proofs.Ends.HasRunLemmas.{has_run, histories_are, ran_whole}
 
 -- what a state keeps says which role it has
 module _ {W L T G H : Type 0} (x : WorldWords W L) (l : LinkWords L) (y : TalkWords T L G H) where
@@ -108,24 +103,12 @@ module _ {W L T G H : Type 0} (x : WorldWords W L) (l : LinkWords L) (y : TalkWo
     (crew : how ≡ Empty → parts.lost.items ≡ [] → CrewEnds y (x.tells first).total log parts.states.items)
     (fits : RunFits x l first hall parts.states.items (map (λ events. events.items) parts.queued.items) parts.lost.items)
     (is : IsConcluded y (x.tells first).total log how parts ended) (tell : AllByRecursion (StateTells x l y) parts.states.items) where
-  unfoldable pub has_run_threads : HasRunThreads x l y shape hall first log ended
-  unfolding run_left
-  has_run_threads =
-      let run = has_run x l y shape setup hall first log how parts ended rules colours kept crew fits is tell in
-      record {
-        left = run_left x l y shape setup hall first log how parts ended rules colours kept fits is tell;
-        follows = run.follows;
-        never_apart = run.never_apart;
-      }
-
-  -- and what its handlers have done
+  -- what the run leaves, and what its handlers have done
   pub has_run_crew : HandlersRan x l y hall first log setup (map (λ history. history.items) parts.histories.items) parts.lost.items → HasRunCrew x l y shape hall first log ended
-  unfolding has_run_threads run_left
+  unfolding has_run
   has_run_crew handled = record {
-    run = has_run_threads;
+    run = has_run x l y shape setup hall first log how parts ended rules colours kept crew fits is tell;
     lost = parts.lost.items;
-    handled = subst (λ (all : List (List Entry)). HandlersRan x l y hall first log setup all parts.lost.items) (sym (histories_are x l y shape setup hall first log how parts ended rules colours kept fits is tell)) handled;
-    none_lost = λ isnt.
-        let whole = judged (lines_kept log ended.log.items) ended.served.items (is_whole how parts.lost.items (lines_in no_lines parts.states.items)) (is_some ended.world) ended.failed (x.tells first).total ended.accepted ended.verdict isnt is.verdict in
-        (whole_is how parts.lost.items (lines_in no_lines parts.states.items) whole.ran).1;
+    handled = subst (λ (all : List (List Entry)). HandlersRan x l y hall first log setup all parts.lost.items) (sym (histories_are x l y shape setup hall first log how parts ended rules colours kept crew fits is tell)) handled;
+    none_lost = λ isnt. (ran_whole x l y shape setup hall first log how parts ended rules colours kept crew fits is tell isnt).1;
   }

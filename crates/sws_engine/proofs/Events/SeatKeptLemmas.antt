@@ -24,11 +24,11 @@ use Rattle.sws_engine.specs.declared.place.Seat.{Seat}
 use Rattle.sws_engine.specs.Loads.{LinkStands, Fit, FitsTold, IsComing, IsLineIn, TellsLine}
 use Rattle.sws_engine.specs.Handling.{Put, next_puts, line_puts, is_due, stray_of, Stepped, RunsSeat}
 use Rattle.sws_engine.specs.Counting.{bit, colours_over}
-use Rattle.sws_engine.specs.Tasks.{task_of, number_of}
+use Rattle.sws_engine.specs.Tasks.{task_of, number_of, event_for}
 use Rattle.sws_engine.specs.declared.task.Task.TheVariants as task
 use Rattle.sws_engine.proofs.Events.FitLemmas.{line_fit, number_is}
 use Rattle.sws_engine.proofs.Events.WaitingListsLemmas.{each_append}
-use Rattle.sws_engine.specs.Invariant.{event_for, RanBy, TrailIs, SeatStands}
+use Rattle.sws_engine.specs.Invariant.{RanBy, TrailIs, SeatStands}
 use Rattle.sws_engine.specs.Seating.{HasRunSome, PutsTold}
 
 and_both : (a b : Bool) → (a && b) ≡ true → (a ≡ true) × (b ≡ true)

@@ -46,13 +46,14 @@ use Rattle.sws_engine.specs.Counting.{colours_over}
 use Rattle.sws_engine.specs.Initial.{IsInitialRole, AreInitialPlacesOver, first_poll, initial_load}
 use Rattle.sws_engine.specs.Handling.{Runs}
 use Rattle.sws_engine.specs.PathPlaces as path
-use Rattle.sws_engine.specs.PathStates.{TellsPaths, HasRest, HasRole, HasPlace, HasLoad, IsPlacedAt, is_spoilt, worlds_of_state, worlds_of_load, ArePuts}
+use Rattle.sws_engine.specs.PathStates.{TellsPaths, HasRest, HasRole, HasPlace, HasLoad, IsPlacedAt, is_spoilt, ArePuts}
 use Rattle.sws_engine.specs.Server.{Server, first_event}
 use Rattle.sws_engine.specs.ServerRun.{server_rules, IsRunOfPaths}
-use Rattle.sws_engine.specs.Agrees.{AreOpened, PlaceAgrees}
-use Rattle.sws_engine.specs.Placed.{IsPlaced, initial_place, AreInitialPlacesBy}
+use Rattle.sws_engine.specs.Openings.{AreOpened}
+use Rattle.sws_engine.proofs.Model.Agrees.{PlaceAgrees}
+use Rattle.sws_engine.proofs.Model.Placed.{IsPlaced, initial_place, AreInitialPlacesBy}
 use Rattle.sws_engine.specs.ServedRun.{HasRunOut}
-use Rattle.sws_engine.proofs.Paths.PathServerLemmas.{place_runs, stays_spoilt, state_counts, load_counts, first_world}
+use Rattle.sws_engine.proofs.Paths.PathServerLemmas.{worlds_of_state, worlds_of_load, place_runs, stays_spoilt, state_counts, load_counts, first_world}
 use Rattle.sws_engine.proofs.Model.FirstLemmas.{server_run}
 
 bit_small : (log : Bool) → bit log ≤ 1

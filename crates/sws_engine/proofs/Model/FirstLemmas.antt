@@ -22,8 +22,9 @@ use Rattle.mely_run.proofs.Runs.WholeLemmas.{told_whole}
 use Rattle.sws_engine.specs.Server.{initial_server, first_event, serve}
 use Rattle.sws_engine.specs.ServerRun.{server_rules, IsRunOfPaths}
 use Rattle.sws_engine.specs.PathPlaces.{Load, world, Place, talking, logging, worlds_of_place, worlds_of_load}
-use Rattle.sws_engine.specs.Agrees.{AreOpened, PlaceAgrees, ComingAgrees, worlds_of, is_state_of, PieceAgrees, Agrees}
-use Rattle.sws_engine.specs.Placed.{IsPlaced, initial_place, AreInitialPlacesBy}
+use Rattle.sws_engine.specs.Openings.{AreOpened}
+use Rattle.sws_engine.proofs.Model.Agrees.{PlaceAgrees, ComingAgrees, worlds_of, is_state_of, PieceAgrees, Agrees}
+use Rattle.sws_engine.proofs.Model.Placed.{IsPlaced, initial_place, AreInitialPlacesBy}
 use Rattle.sws_engine.proofs.Model.ToldLemmas.{server_told}
 
 module _ {S P : Type 0} (IsPlace : S → Place → Type 0) (IsLoad : P → Load → Type 0) (holds : S → ℕ) (carries : P → ℕ) (log : Bool) (whole : List (List Step))

@@ -17,7 +17,8 @@ use Rattle.sws_engine.specs.Tasks.{number_of}
 use Rattle.sws_engine.specs.Waiting.{waiting_with}
 use Rattle.sws_engine.specs.Server.{Server, after_poll, after_wait, after_accept, after_talk, after_event, serve}
 use Rattle.sws_engine.specs.PathPlaces.{talk, poll, next_event, follows, logs, World, Load, world, link, line, Desk, Place, polling, accepting, talking, logging, Put, with_nothing, with_line, Ran, stays, polls, wakes, waits, runs_desk, accepts, goes_along, takes_off, runs_place, worlds_of_rest, worlds_of_place, worlds_of_load}
-use Rattle.sws_engine.specs.Agrees.{HasNoOpening, AreOpened, WorldAgrees, RestAgrees, DeskAgrees, SeatAgrees, PlaceAgrees, ComingAgrees}
+use Rattle.sws_engine.specs.Openings.{HasNoOpening, AreOpened}
+use Rattle.sws_engine.proofs.Model.Agrees.{WorldAgrees, RestAgrees, DeskAgrees, SeatAgrees, PlaceAgrees, ComingAgrees}
 
 abbrev pub bare : Put → Colour × Event
 bare p = (p.0, p.1)

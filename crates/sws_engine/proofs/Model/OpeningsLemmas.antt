@@ -23,7 +23,7 @@ use Rattle.sws_steps.specs.Logs.{Step, steps_of}
 use Rattle.sws_steps.specs.LogLaws.{steps_of-handlers}
 use Rattle.sws_steps.proofs.Runs.PathLemmas.{path_of-path}
 use Rattle.sws_engine.specs.Tasks.{number_of}
-use Rattle.sws_engine.specs.Agrees.{HasNoOpening, IsOpened, AreOpened}
+use Rattle.sws_engine.specs.Openings.{HasNoOpening, IsOpened, AreOpened}
 
 -- the step isn't the opening
 abbrev HasOpened : Next → Type 0

@@ -38,7 +38,7 @@ use Rattle.sws_engine.specs.RunLeaves.{lines_in, Talker, talkers, is_out_of_memo
 use Rattle.sws_engine.specs.Handing.{served_with_loads}
 use Rattle.sws_engine.specs.Conclusion.{is_whole, IsConcluded}
 use Rattle.sws_engine.specs.PathStates.{TellsPaths, is_memory, is_spoilt_role, is_spoilt}
-use Rattle.sws_engine.specs.Agrees.{AreOpened}
+use Rattle.sws_engine.specs.Openings.{AreOpened}
 use Rattle.sws_engine.specs.ServerRun.{handler_rows, IsRunOfPaths}
 use Rattle.sws_engine.specs.ServedRun.{IsOfPaths}
 use Rattle.sws_engine.proofs.Ends.ConcludedLemmas.{whole_is}

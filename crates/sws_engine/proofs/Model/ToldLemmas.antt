@@ -16,9 +16,10 @@ use Rattle.mely_run.specs.Corresponds.{without_loads}
 use Rattle.mely_run.specs.Pieces.{Piece, state_piece, event_piece, of_put, IsTold}
 use Rattle.sws_engine.specs.Server.{Server, serve}
 use Rattle.sws_engine.specs.PathPlaces.{World, Load, world, link, line, Place, polling, accepting, talking, logging, Put, Ran, runs_place, worlds_of_rest, worlds_of_place, worlds_of_load}
-use Rattle.sws_engine.specs.Agrees.{AreOpened, WorldAgrees, RestAgrees, PlaceAgrees, ComingAgrees, is_state_of, worlds_in_load, worlds_of, PieceAgrees, Agrees}
+use Rattle.sws_engine.specs.Openings.{AreOpened}
+use Rattle.sws_engine.proofs.Model.Agrees.{WorldAgrees, RestAgrees, PlaceAgrees, ComingAgrees, is_state_of, worlds_in_load, worlds_of, PieceAgrees, Agrees}
 use Rattle.sws_engine.specs.PathStates.{AreLoads, ArePuts}
-use Rattle.sws_engine.specs.Placed.{IsPlaced}
+use Rattle.sws_engine.proofs.Model.Placed.{IsPlaced}
 use Rattle.sws_engine.proofs.Model.HandlesLemmas.{bare, Handled, append_all, handle_is}
 
 all_zero : {A : Type 0} (f : A → ℕ) (xs : List A) → sum_by f xs ≡ 0 → AllByRecursion (λ x. f x ≡ 0) xs

@@ -29,7 +29,7 @@ use Rattle.sws_engine.specs.Tasks.{task_of}
 use Rattle.sws_engine.specs.Loads.{TaskFits, Fit}
 use Rattle.sws_engine.specs.Handling.{Put, is_due, conn_of, RunsDesk, RunsAccepting, RunsSeat, RunsRole}
 use Rattle.sws_engine.specs.PathPlaces as path
-use Rattle.sws_engine.specs.PathStates.{steps_to_come, TellsPaths, HasWorld, HasRest, HasDesk, HasTalk, HasRole, HasPlace, HasLoad, IsPlacedAt, is_memory, is_spoilt_role, AreLoads, ArePuts, FollowsPaths, StaysSpoilt, worlds_of_rest, worlds_of_role, worlds_of_state, worlds_of_load}
+use Rattle.sws_engine.specs.PathStates.{steps_to_come, TellsPaths, HasWorld, HasRest, HasDesk, HasTalk, HasRole, HasPlace, HasLoad, IsPlacedAt, is_memory, is_spoilt_role, AreLoads, ArePuts, FollowsPaths, StaysSpoilt}
 use Rattle.sws_engine.proofs.Events.FitLemmas.{number_is, conn_fit, desk_fit, accept_fit}
 use Rattle.sws_engine.proofs.Paths.PathRunsLemmas.{poll_runs, wait_runs, accept_runs}
 use Rattle.sws_engine.proofs.Paths.PathTalksLemmas.{opened_runs, waiting_runs, opening_runs}
@@ -268,6 +268,28 @@ pub stays_spoilt : {W L T G H : Type 0} (x : WorldWords W L) (l : LinkWords L) (
 stays_spoilt x l y total log before after event carried puts does is = role_spoilt x l y before.colour event carried puts total log before.role after.role does.does is
 
 -- ---- worlds, room, and what there is at first
+
+-- how many worlds a state and a load have
+abbrev pub worlds_of_rest : {W : Type 0} → Option (WorldLoad W) → ℕ
+worlds_of_rest None = 0
+worlds_of_rest (Some held) = 1
+
+-- how many worlds a role has
+abbrev pub worlds_of_role : {W T : Type 0} → Role W T → ℕ
+worlds_of_role (Polling desk) = worlds_of_rest desk.resting
+worlds_of_role Accepting = 0
+worlds_of_role (Talking seat) = 0
+worlds_of_role Logging = 0
+
+-- how many worlds a state has
+abbrev pub worlds_of_state : {H W T : Type 0} → PlaceState H W T → ℕ
+worlds_of_state s = worlds_of_role s.role
+
+-- how many worlds a load has
+abbrev pub worlds_of_load : {W L : Type 0} → Load W L → ℕ
+worlds_of_load (load.World held) = 1
+worlds_of_load (load.Link link) = 0
+worlds_of_load (load.Line line) = 0
 
 module _ {W L T G H : Type 0} (x : WorldWords W L) (l : LinkWords L) (y : TalkWords T L G H) (hall : H) (paths : List (List Step)) where
   rest_counts : (resting : Option (WorldLoad W)) (rests : Option path.World) → HasRest x l y hall paths resting rests → worlds_of_rest resting ≡ path.worlds_of_rest rests

@@ -22,7 +22,7 @@ use Rattle.sws_engine.specs.declared.ended.Served.{Served}
 use Rattle.sws_engine.specs.declared.place.Seat.{Seat}
 use Rattle.sws_engine.specs.ConnFollows.{ConnFollows}
 use Rattle.sws_engine.specs.Handling.{conn_of}
-use Rattle.sws_engine.specs.Invariant.{event_for}
+use Rattle.sws_engine.specs.Tasks.{event_for}
 use Rattle.sws_engine.specs.Loads.{IsComing, LinkStands}
 use Rattle.sws_engine.specs.Place.{PlaceState}
 use Rattle.sws_engine.specs.RunLeaves.{is_out_of_memory, ShowsSeat}

@@ -17,7 +17,7 @@ use Rattle.sws_engine.specs.declared.place.Role.{Role}
 use Rattle.sws_engine.specs.declared.place.Role.TheVariants.{Polling, Accepting, Talking, Logging}
 use Rattle.sws_engine.specs.Place.{PlaceState}
 use Rattle.sws_engine.specs.Handling.{is_some}
-use Rattle.sws_engine.specs.Initial.{IsInitialRole, IsInitialPlace, AreInitialPlaces, IsInitialPlaceOver, AreInitialPlacesOver, first_poll, initial_load}
+use Rattle.sws_engine.specs.Initial.{IsInitialRole, IsInitialPlace, IsInitialPlaceOver, AreInitialPlacesOver, first_poll, initial_load}
 use Rattle.sws_engine.specs.RunStands.{Way, if_held, is_any, is_beyond, is_unended, is_late, at_desk, at_seat, misplaced_at, first_number, due_number, is_stray, asks_for, misplaced_count, desks, seats, strays, is_at, is_opened, RunStands}
 use Rattle.sws_engine.specs.Counting.{bit, times, colours_over}
 
@@ -44,6 +44,13 @@ misplaced_none c n more less =
     ap (λ t. bit (t || not (nat_lt c n))) a ∙ ap (λ t. bit (not t)) b
 
 module _ {W L T G H : Type 0} (y : TalkWords T L G H) (first : W) where
+  -- a state for colours 0 and 1, and one for each connection, and with the log one more
+  pub record AreInitialPlaces (total : ℕ) (log : Bool)
+      (states : List (PlaceState H W T)) : Type 0 where
+    pub many : length states ≡ colours_over total log
+    pub each : (i : ℕ) (s : PlaceState H W T) → slice_get states i ≡ Some s
+        → IsInitialPlace y first total i s
+
   -- what each number is of an initial state
   pub initial_misplaced : (total c k : ℕ) (role : Role W T) → c ≡ k → IsInitialRole y first total k role → misplaced_at total c role ≡ 0
   initial_misplaced total c k (Polling desk) is initial = ap (λ b. bit (not b)) (eq-eqb c 0 (is ∙ initial.0))
@@ -78,7 +85,7 @@ module _ {W L T G H : Type 0} (y : TalkWords T L G H) (first : W) where
   due_three : (seat : Seat T) → y.view_of seat.talk ≡ unopened_view → due_number y seat ≡ 3
   due_three seat initial = ap (λ (v : TalkView). first_number (due v)) initial
 
-  module _ (total : ℕ) (log : Bool) (states : List (PlaceState H W T)) (initial : AreInitialPlaces y first total log states) where
+  module _ (total : ℕ) (log : Bool) (states : List (PlaceState H W T)) (initial : AreInitialPlaces total log states) where
     none : (f : PlaceState H W T → ℕ) → ((k : ℕ) (s : PlaceState H W T) → IsInitialPlace y first total k s → f s ≡ 0) → sum_by f states ≡ 0
     none f each = sum_nowhere f states (λ k s at. each k s (initial.each k s at))
 

@@ -1,7 +1,7 @@
 use Rattle.std.proofs.Common.{◌≡◌, Bool, sym, subst, inr, arith}
 use Rattle.std.specs.List.{AllByRecursion}
 use Rattle.sws_engine.specs.Conclusion.{IsConcluded}
-use Rattle.sws_engine.proofs.Ends.NeverApartLemmas.{has_run}
+use Rattle.sws_engine.proofs.Ends.HasRunLemmas.{has_run}
 use Rattle.sws_engine.proofs.Ends.ConcludedLemmas.{rules_are}
 use Rattle.sws_engine.proofs.Ends.SeatsOfRunLemmas.{seats_stand, below_bit}
 use Rattle.sws_engine.proofs.Model.StepsLemmas.{steps_modelled}

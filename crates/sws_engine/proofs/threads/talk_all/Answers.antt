@@ -1,8 +1,8 @@
 use Rattle.std.proofs.Common.{◌≡◌, Bool, sym, subst, inr, arith}
 use Rattle.std.specs.List.{AllByRecursion}
 use Rattle.sws_engine.specs.Conclusion.{IsConcluded}
-use Rattle.sws_engine.proofs.Ends.AloneLemmas.{steps_leave_threads}
-use Rattle.sws_engine.proofs.Ends.ThreadLemmas.{has_run_crew, has_run_threads}
+use Rattle.sws_engine.proofs.Ends.HasRunLemmas.{has_run}
+use Rattle.sws_engine.proofs.Ends.ThreadLemmas.{has_run_crew}
 use Rattle.sws_engine.proofs.Ends.ConcludedLemmas.{rules_are}
 use Rattle.sws_engine.proofs.Ends.SeatsOfRunLemmas.{seats_stand, below_bit}
 use Rattle.sws_engine.proofs.threads.talk_all.Goals as goal
@@ -20,16 +20,13 @@ conclude-requires-clause-seats g c =
     let same = c.total-total.ensures in
     omega (arith, seats, same)
 
-pub returns-then-shape-eq1-clause-leaves : goal.returns-then-shape-eq1-clause-leaves
-returns-then-shape-eq1-clause-leaves g c = steps_leave_threads g.W.World g.W.Link.Link g.T.Talk c.args.shape.now (g.T.Talk.contents_of c.args.hall) c.args.world c.args.log c.talk_gated.result c.talk_gated.ensures.leaves
-
 pub returns-in-Ok-run_threads-clause-leaves : goal.returns-in-Ok-run_threads-clause-leaves
 returns-in-Ok-run_threads-clause-leaves g c =
     let same = c.total-total.ensures in
     let setup = c.setup_of-setup.ensures in
     let made = c.colour_count-colours.ensures in
     let count = setup.colours in
-    inr (has_run_threads g.W.World g.W.Link.Link g.T.Talk c.args.shape.now c.setup_of-setup.result _ c.args.world c.args.log c.in-Ok-run_threads.drained c.in-Ok-run_threads.parts c.conclude.result (rules_are c.setup_of-setup.result c.args.shape.now setup.shape setup.rows setup.pinned) (omega (arith, count, made, same)) c.in-Ok-run_threads.ensures.kept c.in-Ok-run_threads.ensures.ends c.in-Ok-run_threads.ensures.fits
+    inr (has_run g.W.World g.W.Link.Link g.T.Talk c.args.shape.now c.setup_of-setup.result _ c.args.world c.args.log c.in-Ok-run_threads.drained c.in-Ok-run_threads.parts c.conclude.result (rules_are c.setup_of-setup.result c.args.shape.now setup.shape setup.rows setup.pinned) (omega (arith, count, made, same)) c.in-Ok-run_threads.ensures.kept c.in-Ok-run_threads.ensures.ends c.in-Ok-run_threads.ensures.fits
     (subst (λ n. IsConcluded g.T.Talk n c.args.log c.in-Ok-run_threads.drained c.in-Ok-run_threads.parts c.conclude.result) same c.conclude.ensures.concluded) c.conclude.ensures.tell)
 
 pub returns-then-shape-eq1-clause-crew : goal.returns-then-shape-eq1-clause-crew

@@ -2,17 +2,17 @@ use Rattle.std.proofs.Common.{map, refl, subst}
 use Rattle.sws_script.specs.Scripted.{script_of}
 use Rattle.sws_replay.specs.Expected.{Expected, by_http-is}
 use Rattle.sws_replay.specs.Runs.{RunsWell}
-use Rattle.sws_replay.proofs.RunLemmas.{given_refused, given_well, steps_run_well, steps_lose_nothing}
+use Rattle.sws_replay.proofs.RunLemmas.{given_refused, given_well, lose_nothing, run_well}
 use Rattle.sws_replay.proofs.WorldLemmas.{scripts_told}
 use Rattle.sws_replay.proofs.running.run_steps.Goals as goal
 
 pub given-requires : goal.given-requires
-given-requires g c = steps_lose_nothing _ _ _ _ _ _ c.args.conns.now c.args.log _ c.serve_steps.ensures.leaves c.in_ok-world.ensures.tells
+given-requires g c = lose_nothing _ _ _ _ _ _ c.args.conns.now c.args.log _ c.serve_steps.ensures.leaves c.in_ok-world.ensures.tells
 
 pub returns-clause-ran : goal.returns-clause-ran
 returns-clause-ran g c = given_well _ _ _ c.given.ensures (λ well.
     subst (λ (e : Expected). RunsWell e c.args.shape.now c.args.conns.now c.args.log c.serve_steps.result) (by_http-is c.args.site.now)
-    (steps_run_well _ _ _ _ _ _ c.args.conns.now c.args.log _ c.serve_steps.ensures.leaves c.in_ok-world.ensures.tells (λ link. refl) well))
+    (run_well _ _ _ _ _ _ c.args.conns.now c.args.log _ c.serve_steps.ensures.leaves c.in_ok-world.ensures.tells (λ link. refl) well))
 
 pub returns-clause-scheduled : goal.returns-clause-scheduled
 returns-clause-scheduled g c = given_well _ _ _ c.given.ensures (λ well.

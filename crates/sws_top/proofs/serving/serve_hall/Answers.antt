@@ -22,6 +22,6 @@ returns-clause-served g c =
     let ends = subst (λ (fault : Option TopFault). EndsBy o c.args.out.now c.write_end-fault.new.out fault ended.log.items ended.served.items ended.verdict) (sym c.of_run.ensures.fault)
     (subst (λ (lines : List LogLine). EndsBy o c.args.out.now c.write_end-fault.new.out c.write_end-fault.result lines ended.served.items ended.verdict) c.deref.ensures.value
     (subst (λ (served : List (Served _)). EndsBy o c.args.out.now c.write_end-fault.new.out c.write_end-fault.result c.deref.result.now served ended.verdict) c.deref-2.ensures.value c.write_end-fault.ensures)) in
-    inr (served_by x g.W.Link.Link _ c.args.how.now.shape (g.K.Talk.contents_of c.args.hall) c.open.new.self c.args.how.now.log ended o c.args.out.now c.write_end-fault.new.out
-    c.args.world c.of_run.result c.args.how.now.port c.args.how.now.connections c.in-Ready.ensures
+    inr (served_by x g.W.Link.Link _ c.args.how.now.shape (g.K.Talk.contents_of c.args.hall) c.open.new.self c.args.how.now.log ended
+    c.args.world c.args.how.now.port c.args.how.now.connections c.in-Ready.ensures o c.args.out.now c.write_end-fault.new.out c.of_run.result
     c.talk_all-ended.ensures.leaves c.of_run.ensures.there c.of_run.ensures.gone ends)

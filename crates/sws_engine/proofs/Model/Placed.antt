@@ -7,7 +7,7 @@ use Rattle.mely_worker.specs.declared.app.App.{Ghosts as AppWords}
 use Rattle.sws_steps.specs.Logs.{Step}
 use Rattle.sws_engine.specs.Server.{Server}
 use Rattle.sws_engine.specs.PathPlaces.{Load, Place, polling, accepting, talking, logging, runs_place, worlds_of_place, worlds_of_load}
-use Rattle.sws_engine.specs.Agrees.{PlaceAgrees, ComingAgrees}
+use Rattle.sws_engine.proofs.Model.Agrees.{PlaceAgrees, ComingAgrees}
 use Rattle.sws_engine.specs.PathStates.{AreLoads, ArePuts}
 
 -- over a scripted world a handler makes of what a colour has and of its load what the place says,

@@ -1,33 +1,15 @@
 -- The server in a weave agrees with the server as a function.
-use Rattle.std.specs.Prelude.{◌≡◌, ◌≢◌, ◌<◌, ◌≤◌, ℕ, zero, suc, ◌+◌, ◌-◌, ◌==◌, Bool, false, List, ◌∷◌, Option, None, Some, All, length, drop, sum_by, count_by, slice_get, is_some}
+use Rattle.std.specs.Prelude.{◌≡◌, ◌<◌, ◌≤◌, ℕ, zero, suc, ◌+◌, ◌-◌, ◌==◌, Bool, false, List, Option, None, Some, All, length, drop, sum_by, count_by, slice_get, is_some}
 use Rattle.std.proofs.Common.{inl, inr}
-use Rattle.std.specs.List.{AllByRecursion}
 use Rattle.mely_event.specs.declared.colour.Colour.{Colour}
 use Rattle.sws_steps.specs.Logs.{Step}
-use Rattle.sws_steps.specs.declared.Handler.TheVariants as handler
 use Rattle.mely_run.specs.Pieces.{Piece}
-use Rattle.sws_engine.specs.Tasks.{number_of}
 use Rattle.sws_engine.specs.Server.{Server}
+use Rattle.sws_engine.specs.Openings.{HasNoOpening}
 use Rattle.sws_engine.specs.PathPlaces.{World, Load, world, link, line, Desk, Place, polling, accepting, talking, logging}
 use Rattle.sws_engine.specs.PathStates.{AreLoads}
 
--- no opening
-abbrev pub HasNoOpening : List Step → Type 0
-HasNoOpening path = AllByRecursion (λ step. number_of step.handler ≢ number_of handler.Open) path
-
--- the path begins with the opening, and has no other
-pub record IsOpened (path : List Step) : Type 0 where
-  pub first : Step
-  pub later : List Step
-  pub path_is : path ≡ first ∷ later
-  pub opens : first.handler ≡ handler.Open
-  pub once : HasNoOpening later
-
 module _ (whole : List (List Step)) where
-  -- each path does
-  abbrev pub AreOpened : Type 0
-  AreOpened = (i : ℕ) (path : List Step) → slice_get whole i ≡ Some path → IsOpened path
-
   -- the world has accepted so many links, and has the others to come
   pub record WorldAgrees (s : Server) (w : World) : Type 0 where
     pub accepted : w.accepted ≡ s.accepted

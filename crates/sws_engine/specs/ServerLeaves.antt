@@ -1,6 +1,6 @@
--- What every run of the server leaves, over a weave or on threads.
-use Rattle.std.specs.Prelude.{◌≡◌, ◌≢◌, ◌+◌, ◌<◌, ◌⊎◌, ℕ, Bool, false, true, List, [], map, Some, IsSome, is_some, length, slice_get}
-use Rattle.std.specs.List.{AllByRecursion}
+-- What a run of the server leaves, over a weave or on threads.
+use Rattle.std.specs.Prelude.{◌≡◌, ◌≢◌, ◌+◌, ◌<◌, ◌⊎◌, ℕ, Bool, false, true, List, [], map, Some, None, IsSome, length, slice_get}
+use Rattle.std.specs.List.{AllByRecursion, range_with_len}
 use Rattle.mely_event.specs.declared.colour.Colour.{Colour}
 use Rattle.mely_event.specs.declared.event.Event.{Event}
 use Rattle.mely_history.specs.History.{ran_of}
@@ -18,6 +18,7 @@ use Rattle.sws_link.specs.Scripts.{Script}
 use Rattle.sws_link.specs.Links.{input_of}
 use Rattle.sws_link.specs.Worlds.{Coming, initial_contents}
 use Rattle.sws_log.specs.Lines.{lines_within}
+use Rattle.sws_steps.specs.declared.End.TheVariants as ending
 use Rattle.sws_steps.specs.declared.talk.Talk.{Ghosts as TalkWords}
 use Rattle.sws_engine.specs.declared.ended.Served.{Served}
 use Rattle.sws_engine.specs.declared.ended.Ended.{Ended}
@@ -27,19 +28,34 @@ use Rattle.sws_engine.specs.ConnLeft.{ConnLeft}
 use Rattle.sws_engine.specs.Counting.{colours_over}
 use Rattle.sws_engine.specs.LogTurns.{lines_for}
 use Rattle.sws_engine.specs.Loads.{WorldStands, IsLineIn}
-use Rattle.sws_engine.specs.RunLeaves.{AreWhole, lines_kept, links_owed, NoneOutOfMemory, VerdictIs}
 use Rattle.sws_engine.specs.ServerRun.{server_rules}
+
+-- memory was refused before the first event: the world is handed back, and the lists are empty
+pub record HasNotBegun {W L : Type 0} (world : W) (ended : Ended W L) : Type 0 where
+  pub refused : ended.verdict ≡ verdict.Memory
+  pub back : ended.world ≡ Some world
+  pub none_accepted : ended.accepted ≡ 0
+  pub sound : ended.failed ≡ false
+  pub none_served : ended.served.items ≡ []
+  pub no_history : ended.histories.items ≡ []
+  pub no_trail : ended.trails.items ≡ []
+  pub no_line : ended.log.items ≡ []
 
 module _ {W L T G H : Type 0} (x : WorldWords W L) (l : LinkWords L) (y : TalkWords T L G H)
     (hall : H) (first : W) (ended : Ended W L) where
-  -- a connection whose link answers by a known script has run its path and come to its outcome
-  abbrev pub AllFollow : Type 0
-  AllFollow = (coming : List Coming) (one : Coming) (script : Script) (i : ℕ) (s : Served L)
-      (trail : List Event) → (x.tells first).coming ≡ Some coming → slice_get coming i ≡ Some one
-      → one.answers ≡ Some script
-      → slice_get ended.served.items i ≡ Some s
-      → slice_get (map (λ t. t.items) ended.trails.items) (i + 2) ≡ Some trail
-      → ConnFollows l y hall i script trail s
+  -- connection i was served: it has its link and an end, and met no event that wasn't due
+  pub record IsServed (log : Bool) (i : ℕ) (s : Served L) : Type 0 where
+    pub has_link : IsSome s.link
+    pub has_end : IsSome s.end
+    pub no_stray : s.stray ≡ None
+    -- with the log, the lines that it gave are all there, in their turn; where the world told its
+    -- input, they are those of its answers that were written whole
+    pub in_turn : log ≡ true
+        → map (λ line. line.turn) (lines_for i ended.log.items) ≡ range_with_len 1 s.answered
+    pub lines : log ≡ true → (coming : List Coming) (one : Coming)
+        → (x.tells first).coming ≡ Some coming → slice_get coming i ≡ Some one
+        → lines_for i ended.log.items
+        ≡ lines_within s.written (y.log hall i (input_of (initial_contents one)))
 
 module _ {W L T G H : Type 0} (x : WorldWords W L) (l : LinkWords L) (y : TalkWords T L G H)
     (shape : Shape) (hall : H) (first : W) (log : Bool) (ended : Ended W L) where
@@ -48,15 +64,11 @@ module _ {W L T G H : Type 0} (x : WorldWords W L) (l : LinkWords L) (y : TalkWo
   histories_in = map (λ history. history.items) ended.histories.items
 
   -- by the shape, over the world that was handed in
-  pub record RunLeft : Type 0 where
+  pub record HasRun : Type 0 where
     pub setup : Setup
     -- of the shape, with the server's handlers, and its first colour pinned
     pub rules : rules_of setup ≡ server_rules shape
     pub colours : colours_of setup ≡ colours_over (x.tells first).total log
-    -- whether all was run, and the verdict, which is exactly what that and the rest show
-    pub whole : Bool
-    pub judged : VerdictIs (lines_kept log ended.log.items) ended.served.items whole
-        (x.tells first).total (is_some ended.world) ended.accepted ended.failed ended.verdict
     -- the histories, one for each shard, are legal, and drained unless memory was refused; each
     -- colour's trail is what was run of it
     pub legal : AreLegal setup histories_in
@@ -79,25 +91,8 @@ module _ {W L T G H : Type 0} (x : WorldWords W L) (l : LinkWords L) (y : TalkWo
     pub lines_told : AllByRecursion (λ line. (line.conn < (x.tells first).total)
         × IsLineIn (y.log hall) (x.tells first).coming line) ended.log.items
     pub unlogged : log ≡ false → ended.log.items ≡ []
-    -- at Ok and at World, the lines of each connection that was to be served, whose input the world
-    -- told, are those of its answers that were written whole, in order
-    pub lines : log ≡ true → ended.verdict ≡ verdict.Ok ⊎ ended.verdict ≡ verdict.World
-        → (coming : List Coming) (one : Coming) (i : ℕ) (s : Served L)
-        → (x.tells first).coming ≡ Some coming → slice_get coming i ≡ Some one
-        → i < links_owed ended.failed ended.accepted (x.tells first).total
-        → slice_get ended.served.items i ≡ Some s
-        → lines_for i ended.log.items
-        ≡ lines_within s.written (y.log hall i (input_of (initial_contents one)))
-    -- there is a member for each link; at Ok the world is there and each has its link, an end, and
-    -- no stray event, and at World so have those that were accepted
+    -- there is a member for each link; it has the link of its number, as it was served
     pub many_served : length ended.served.items ≡ (x.tells first).total
-    pub ok : ended.verdict ≡ verdict.Ok → IsSome ended.world × (ended.failed ≡ false)
-        × AreWhole (lines_kept log ended.log.items) ended.served.items (x.tells first).total
-        × NoneOutOfMemory ended.served.items
-    pub world : ended.verdict ≡ verdict.World → IsSome ended.world × (ended.failed ≡ true)
-        × AreWhole (lines_kept log ended.log.items) ended.served.items ended.accepted
-        × NoneOutOfMemory ended.served.items
-    -- a connection has the link of its number, as it was served
     pub conn : (i : ℕ) (s : Served L) (trail : List Event) → slice_get ended.served.items i ≡ Some s
         → slice_get (map (λ t. t.items) ended.trails.items) (i + 2) ≡ Some trail
         → ConnLeft x l y hall first i trail s
@@ -109,3 +104,27 @@ module _ {W L T G H : Type 0} (x : WorldWords W L) (l : LinkWords L) (y : TalkWo
           accepted = ended.accepted;
           failed = ended.failed;
         })
+    -- at Ok the world didn't fail, and all links were accepted; at World it failed
+    pub sound : ended.verdict ≡ verdict.Ok → ended.failed ≡ false
+    pub all_accepted : ended.verdict ≡ verdict.Ok → ended.accepted ≡ (x.tells first).total
+    pub failed : ended.verdict ≡ verdict.World → ended.failed ≡ true
+    -- unless memory was refused the world is there, no connection ended for want of memory, and
+    -- each whose link was accepted was served; none is ever lost
+    pub held : ended.verdict ≢ verdict.Memory → IsSome ended.world
+    pub enough : ended.verdict ≢ verdict.Memory → (i : ℕ) (s : Served L)
+        → slice_get ended.served.items i ≡ Some s → s.end ≢ Some ending.Memory
+    pub served : ended.verdict ≢ verdict.Memory → (i : ℕ) (s : Served L) → i < ended.accepted
+        → slice_get ended.served.items i ≡ Some s → IsServed x l y hall first ended log i s
+    pub never_apart : (conn : ℕ) → ended.verdict ≢ verdict.Apart conn
+    -- at Ok a connection whose link answers by a known script has run its path and come to its
+    -- outcome
+    pub follows : ended.verdict ≡ verdict.Ok → (coming : List Coming) (one : Coming)
+        (script : Script) (i : ℕ) (s : Served L) (trail : List Event)
+        → (x.tells first).coming ≡ Some coming → slice_get coming i ≡ Some one
+        → one.answers ≡ Some script → slice_get ended.served.items i ≡ Some s
+        → slice_get (map (λ t. t.items) ended.trails.items) (i + 2) ≡ Some trail
+        → ConnFollows l y hall i script trail s
+
+  -- memory was refused before the first event, or the server has run
+  abbrev pub ServerLeaves : Type 0
+  ServerLeaves = HasNotBegun first ended ⊎ HasRun

@@ -1,21 +1,29 @@
--- What a run leaves that has come to its end: no connection is ever lost.
-use Rattle.std.proofs.Common.{◌≡◌, ℕ, ◌+◌, ◌≤◌, ◌<◌, Bool, true, false, true≢false, List, [], ◌++◌, Option, None, Some, length, map, refl, sym, ◌∙◌, ap, subst, arith, inl, inr}
+-- What a run leaves, of the parts of its weave: its connections were served, and none is ever lost.
+use Rattle.std.proofs.Common.{◌≡◌, ◌≢◌, ℕ, ◌+◌, ◌≤◌, ◌<◌, Bool, true, false, true≢false, List, [], ◌++◌, Option, None, Some, length, map, refl, sym, ◌∙◌, ap, subst, arith, inl, inr}
+use Rattle.std.proofs.lemmas.List.{length-map}
 use Rattle.std.proofs.lemmas.Option.{slice_get_within}
 use Rattle.std.proofs.lemmas.Bool.Decides.{nat_tests}
 use Rattle.std.specs.List.{AllByRecursion}
 use Rattle.std.specs.Prelude.{slice_get, is_some, is_none, IsSome, option_map, not, nat_lt, ◌&&◌, ◌||◌}
+use Rattle.mely_event.specs.declared.colour.Colour.{Colour}
 use Rattle.mely_event.specs.declared.event.Event.{Event}
+use Rattle.mely_history.specs.History.{ran_of}
+use Rattle.mely_history.specs.Legal.{AreLegal}
 use Rattle.mely_history.specs.Setup.{colours_of}
+use Rattle.mely_history.specs.declared.entry.Entry.{Entry}
 use Rattle.mely_history.specs.declared.setup.Setup.{Setup}
 use Rattle.mely_history.specs.declared.shape.Shape.{Shape}
 use Rattle.mely_weave.proofs.Wholes.GatherLemmas.{get_there}
-use Rattle.mely_machine.specs.Rules.{rules_of}
+use Rattle.mely_machine.specs.Rules.{Rules, rules_of}
+use Rattle.mely_weave.specs.Side.{shard_of}
 use Rattle.mely_weave.specs.declared.draining.Drained.{Drained}
 use Rattle.mely_weave.specs.declared.draining.Drained.TheVariants as drained
 use Rattle.mely_weave.specs.declared.parts.WeaveParts.{WeaveParts}
 use Rattle.mely_tally.specs.Tallies.{carried_by}
 use Rattle.sws_link.specs.declared.Link.{Ghosts as LinkWords}
 use Rattle.sws_link.specs.declared.world.World.{Ghosts as WorldWords}
+use Rattle.sws_steps.specs.declared.End.{End}
+use Rattle.sws_steps.specs.declared.End.TheVariants as ending
 use Rattle.sws_steps.specs.declared.Next.{Next}
 use Rattle.sws_steps.specs.declared.Next.TheVariants as next
 use Rattle.sws_steps.specs.declared.talk.Talk.{Ghosts as TalkWords}
@@ -29,7 +37,6 @@ use Rattle.sws_engine.specs.declared.load.WorldLoad.{WorldLoad}
 use Rattle.sws_engine.specs.declared.load.Load.{Load}
 use Rattle.sws_engine.specs.KeptLines.{KeptLinesState, no_lines}
 use Rattle.sws_engine.specs.Place.{PlaceState}
-use Rattle.sws_engine.specs.RunEnds.{RunEnds}
 use Rattle.sws_engine.specs.PartsKept.{PartsKept}
 use Rattle.sws_engine.specs.CrewEnds.{CrewEnds}
 use Rattle.sws_engine.specs.ServerRun.{server_rules}
@@ -37,7 +44,7 @@ use Rattle.sws_engine.specs.RunFits.{RunFits}
 use Rattle.sws_engine.specs.declared.place.Seat.{Seat}
 use Rattle.sws_engine.specs.declared.place.Role.TheVariants.{Talking}
 use Rattle.sws_engine.specs.Counting.{colours_over}
-use Rattle.sws_engine.specs.RunLeaves.{lines_in, Talker, talkers, resting_in, ShowsSeat, RoleTells, StateTells, is_lacking, is_out_of_turn, links_owed, AreWhole, VerdictIs, lines_kept}
+use Rattle.sws_engine.specs.RunLeaves.{lines_in, Talker, talkers, resting_in, ShowsSeat, RoleTells, StateTells, is_lacking, is_out_of_turn, is_out_of_memory, links_owed, AreWhole, NoneOutOfMemory, VerdictIs, lines_kept}
 use Rattle.std.specs.List.{range_with_len}
 use Rattle.sws_log.specs.declared.line.LogLine.{LogLine}
 use Rattle.sws_engine.specs.declared.place.Role.{Role}
@@ -47,11 +54,10 @@ use Rattle.sws_engine.specs.Served.{SeatServes}
 use Rattle.sws_engine.proofs.Ends.LogTurnsLemmas.{all_numbered}
 use Rattle.sws_engine.specs.Handing.{served_with_loads, world_with_loads}
 use Rattle.sws_engine.specs.Conclusion.{is_whole, accepted_of, failed_of, ways_of, world_found, IsConcluded}
-use Rattle.sws_engine.specs.StepsLeave.{HasRun}
-use Rattle.sws_engine.proofs.Ends.RunLeftLemmas.{run_left, told_as as told_of}
-use Rattle.sws_engine.proofs.Ends.ConcludedLemmas.{all_at, log_stands, whole_is, served_many, conn_follows}
+use Rattle.sws_engine.specs.ServerLeaves.{HasRun, histories_in}
+use Rattle.sws_engine.proofs.Ends.ConcludedLemmas.{all_at, from_map, log_stands, whole_is, judged, served_many, conn_left, world_is_ours, log_begins, log_runs, lines_told, unlogged, is_served, conn_follows}
 use Rattle.sws_engine.proofs.Ends.SeatsOfRunLemmas.{SeatsStand, seats_stand}
-use Rattle.sws_engine.proofs.Balances.ConcludesLemmas.{run_ends}
+use Rattle.sws_engine.proofs.Balances.ConcludesLemmas.{RunEnds, run_ends}
 
 -- where nothing is due, nothing is pending
 none_pending : (waiting : Bool) (pending : Next) → due_after (reported_by waiting pending) ≡ None → pending ≡ next.Nothing
@@ -95,6 +101,22 @@ owed_below : (failed : Bool) (accepted total i : ℕ) → not failed && nat_lt a
 owed_below true accepted total i ended low under = low
 owed_below false accepted total i ended low under = let more : total ≤ accepted = not_less accepted total ended in omega (arith, more, under)
 
+pub not_refused : (end : Option End) → is_out_of_memory end ≡ false → end ≢ Some ending.Memory
+not_refused end enough same = true≢false (ap is_out_of_memory (sym same) ∙ enough)
+
+-- a link that was accepted was to be served
+pub owed_from : (failed : Bool) (accepted total i : ℕ) → accepted ≤ total → i < accepted → i < links_owed failed accepted total
+owed_from true accepted total i within low = low
+owed_from false accepted total i within low = omega (arith, within, low)
+
+-- a run to which no memory was refused, and that lost no connection, was whole
+was_whole : {L : Type 0} (kept : Option (List LogLine)) (served : List (Served L)) (whole there failed : Bool) (total accepted : ℕ) (told : Verdict) → told ≢ verdict.Memory → ((conn : ℕ) → told ≢ verdict.Apart conn) → VerdictIs kept served whole total there accepted failed told
+    → (there ≡ true) × NoneOutOfMemory served × AreWhole kept served (links_owed failed accepted total)
+was_whole kept served whole there failed total accepted verdict.Ok isnt apart is = (is.1, is.0.enough, is.3)
+was_whole kept served whole there failed total accepted verdict.World isnt apart is = (is.1, is.0.enough, is.3)
+was_whole kept served whole there failed total accepted (verdict.Apart conn) isnt apart is = absurd (apart conn refl)
+was_whole kept served whole there failed total accepted verdict.Memory isnt apart is = absurd (isnt refl)
+
 module _ {W L T G H : Type 0} (x : WorldWords W L) (l : LinkWords L) (y : TalkWords T L G H) (shape : Shape) (setup : Setup) (hall : H) (first : W) (log : Bool) (how : Drained) (parts : WeaveParts (PlaceState H W T) (Load W L)) (ended : Ended W L)
     (rules : rules_of setup ≡ server_rules shape) (colours : colours_of setup ≡ colours_over (x.tells first).total log)
     (kept : PartsKept x y setup first log how (map (λ history. history.items) parts.histories.items) parts.states.items (map (λ events. events.items) parts.queued.items))
@@ -119,7 +141,7 @@ module _ {W L T G H : Type 0} (x : WorldWords W L) (l : LinkWords L) (y : TalkWo
     none_left : ways_of y total log how parts ended ≡ []
     none_left = ap (λ (l : List (Event × Option (Load W L))). l ++ carried_by parts.lost.items) (kept.emptied empty) ∙ ap (λ l. carried_by l) none_lost
 
-    served_are : ended.served.items ≡ is.found
+    pub served_are : ended.served.items ≡ is.found
     served_are = is.served ∙ ap (λ (l : List (Event × Option (Load W L))). served_with_loads l is.found) none_left
 
     world_is : world_found y total log how parts ended ≡ Some ends.held
@@ -165,6 +187,15 @@ module _ {W L T G H : Type 0} (x : WorldWords W L) (l : LinkWords L) (y : TalkWo
             ap (λ (b : Bool). is_out_of_turn (lines_kept b ended.log.items) i s) on
             ∙ ap not (all_numbered s.answered (turns_of i ended.log.items) (lines_all on i s place seat under there talks answered))
 
+    pub within : ended.accepted ≤ total
+    within = (world_is_ours x l y hall first log how parts ended kept.many kept.placed kept.of_world fits is tell ends.held.world (is.world ∙ ap (λ (o : Option (WorldLoad W)). option_map (λ held. held.world) o) world_is)).within
+
+    -- where the world didn't fail all links were accepted
+    pub accepted_all : ended.failed ≡ false → ended.accepted ≡ total
+    accepted_all fine =
+        let more : total ≤ ended.accepted = not_less ended.accepted total (ap (λ (b : Bool). not b && nat_lt ended.accepted total) (sym fine) ∙ unended) in
+        omega (arith, more, within)
+
     -- at Ok each link was accepted
     below_all : ended.failed ≡ false → (i : ℕ) → i < total → i < ends.held.accepted
     below_all fine i under =
@@ -179,29 +210,75 @@ module _ {W L T G H : Type 0} (x : WorldWords W L) (l : LinkWords L) (y : TalkWo
       | inr gone ↦ true≢false (sym there_is ∙ gone.0)
     ]
 
-  abbrev Told : Verdict → Type 0
-  Told v = VerdictIs (lines_kept log ended.log.items) ended.served.items (is_whole how parts.lost.items (lines_in no_lines parts.states.items)) total (is_some ended.world) ended.accepted ended.failed v
+  abbrev lines : KeptLinesState
+  lines = lines_in no_lines parts.states.items
 
-  told_as : (v : Verdict) → ended.verdict ≡ v → Told v
-  told_as v same = told_of x l y shape setup hall first log how parts ended rules colours kept fits is tell v same
+  abbrev Told : Verdict → Type 0
+  Told v = VerdictIs (lines_kept log ended.log.items) ended.served.items (is_whole how parts.lost.items lines) total (is_some ended.world) ended.accepted ended.failed v
+
+  pub told_as : (v : Verdict) → ended.verdict ≡ v → Told v
+  told_as v same = subst Told same is.verdict
+
+  -- unless memory was refused, all was run
+  pub ran_whole : ended.verdict ≢ verdict.Memory → (how ≡ drained.Empty) × (parts.lost.items ≡ []) × (lines.lost ≡ false)
+  ran_whole isnt =
+      let whole = judged (lines_kept log ended.log.items) ended.served.items (is_whole how parts.lost.items lines) (is_some ended.world) ended.failed total ended.accepted ended.verdict isnt is.verdict in
+      whole_is how parts.lost.items lines whole.ran
+
+  pub never_apart : (conn : ℕ) → ended.verdict ≢ verdict.Apart conn
+  never_apart conn same =
+      let told = told_as (verdict.Apart conn) same in
+      let run = whole_is how parts.lost.items lines told.0.ran in
+      not_apart run.0 run.1 run.2 conn told
+
+  -- and what was to be served was
+  pub whole : ended.verdict ≢ verdict.Memory → (is_some ended.world ≡ true) × NoneOutOfMemory ended.served.items × AreWhole (lines_kept log ended.log.items) ended.served.items (links_owed ended.failed ended.accepted total)
+  whole isnt = was_whole (lines_kept log ended.log.items) ended.served.items (is_whole how parts.lost.items lines) (is_some ended.world) ended.failed total ended.accepted ended.verdict isnt never_apart is.verdict
+
+  pub histories_are : histories_in x l y shape hall first log ended ≡ map (λ history. history.items) parts.histories.items
+  histories_are = ap (λ v. map (λ history. history.items) v.items) is.histories
+
+  pub trail_is : (c : Colour) (history : List Entry) (trail : List Event) → slice_get (map (λ t. t.items) ended.trails.items) c.0 ≡ Some trail → slice_get (histories_in x l y shape hall first log ended) (shard_of setup c) ≡ Some history → trail ≡ ran_of history c
+  trail_is c history trail at there =
+      let from = from_map (λ (p : PlaceState H W T). p.trail) parts.states.items c.0 trail (ap (λ (l : List (List Event)). slice_get l c.0) (sym is.trails) ∙ at) in
+      sym from.2 ∙ kept.trailed c from.0 history from.1 (ap (λ (l : List (List Entry)). slice_get l (shard_of setup c)) (sym histories_are) ∙ there)
 
   -- where all was run and the world is sound, nothing is due on any connection
-  is_shut : (empty : how ≡ drained.Empty) (none_lost : parts.lost.items ≡ []) → ended.failed ≡ false → (i : ℕ) → i < total → (place : PlaceState H W T) (seat : Seat T) → slice_get parts.states.items (i + 2) ≡ Some place → place.role ≡ Talking seat → due (y.view_of seat.talk) ≡ None
+  pub is_shut : (empty : how ≡ drained.Empty) (none_lost : parts.lost.items ≡ []) → ended.failed ≡ false → (i : ℕ) → i < total → (place : PlaceState H W T) (seat : Seat T) → slice_get parts.states.items (i + 2) ≡ Some place → place.role ≡ Talking seat → due (y.view_of seat.talk) ≡ None
   is_shut empty none_lost fine i under place seat there talks = ((ends empty none_lost).conn i place seat under there talks).closed (below_all empty none_lost fine i under)
 
-  pub has_run : HasRun x l y shape hall first log ended
-  unfolding run_left
+  unfoldable pub has_run : HasRun x l y shape hall first log ended
   has_run = record {
-    left = run_left x l y shape setup hall first log how parts ended rules colours kept fits is tell;
+    setup = setup;
+    rules = rules;
+    colours = colours;
+    legal = subst (λ (l : List (List Entry)). AreLegal setup l) (sym histories_are) kept.legal;
+    shards = ap length histories_are ∙ kept.shards ∙ ap (λ (r : Rules). r.shape.shards) rules;
+    drained = λ isnt shard history at. kept.drained (ran_whole isnt).0 shard history (ap (λ (l : List (List Entry)). slice_get l shard) (sym histories_are) ∙ at);
+    trailed = trail_is;
+    many_trails = sym (length-map ended.trails.items (λ t. t.items)) ∙ ap length is.trails ∙ length-map parts.states.items (λ (p : PlaceState H W T). p.trail) ∙ kept.many;
+    log_begins = log_begins x l y hall first log how parts ended kept.many kept.placed kept.of_world fits is tell;
+    log_runs = λ isnt. log_runs x l y hall first log how parts ended kept.many kept.placed kept.of_world fits is tell (ran_whole isnt).2;
+    lines_told = lines_told x l y hall first log how parts ended kept.many kept.placed kept.of_world fits is tell;
+    unlogged = unlogged x l y hall first log how parts ended kept.many kept.placed kept.of_world fits is tell;
+    many_served = served_many x l y hall first log how parts ended kept.many kept.placed kept.of_world fits is tell;
+    conn = conn_left x l y hall first log how parts ended kept.many kept.placed kept.of_world fits is tell;
+    stands = world_is_ours x l y hall first log how parts ended kept.many kept.placed kept.of_world fits is tell;
+    held = λ isnt. (whole isnt).0;
+    sound = λ same. (told_as verdict.Ok same).2;
+    all_accepted = λ same.
+        let told = told_as verdict.Ok same in
+        let run = whole_is how parts.lost.items lines told.0.ran in
+        accepted_all run.0 run.1 told.2;
+    failed = λ same. (told_as verdict.World same).2;
+    enough = λ isnt i s there. not_refused s.end ((whole isnt).1 i s there);
+    served = λ isnt i s low there. is_served x l y hall first log how parts ended kept.many kept.placed kept.of_world fits is tell i s there ((whole isnt).2 i s (owed_from ended.failed ended.accepted total i (within (ran_whole isnt).0 (ran_whole isnt).1) low) there);
+    never_apart = never_apart;
     follows = λ same coming one script i s trail known at answers there run_of.
         let told = told_as verdict.Ok same in
-        let run = whole_is how parts.lost.items (lines_in no_lines parts.states.items) told.0.ran in
+        let run = whole_is how parts.lost.items lines told.0.ran in
         let whole = subst (λ (b : Bool). AreWhole (lines_kept log ended.log.items) ended.served.items (links_owed b ended.accepted total)) told.2 told.3 in
         let many = served_many x l y hall first log how parts ended kept.many kept.placed kept.of_world fits is tell in
         let under : i < total = (let within = slice_get_within ended.served.items i s there in omega (arith, within, many)) in
         conn_follows x l y hall first log how parts ended kept.many kept.placed kept.of_world fits is tell (served_are run.0 run.1) i (λ place seat at talks nothing some. is_shut run.0 run.1 told.2 i under place seat at talks) coming one script s trail known at answers there run_of (whole i s under there) (told.0.enough i s there);
-    never_apart = λ conn same.
-        let told = told_as (verdict.Apart conn) same in
-        let run = whole_is how parts.lost.items (lines_in no_lines parts.states.items) told.0.ran in
-        not_apart run.0 run.1 run.2 conn told;
   }
