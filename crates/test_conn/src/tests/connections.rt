@@ -1,13 +1,13 @@
 //! Connections over links in memory, and what they write.
-ghost use Rattle.std.specs.Prelude.{◌≡◌, false};
+ghost use Rattle.std.specs.Prelude.{◌≡◌, false, IfOk};
+ghost use Rattle.sws_link.specs.MemWorlds.{IsInitialSureLink};
 
 mod lines;
 mod talks;
 
-use std::alloc::Global;
-use std::process::Abort;
+use std::alloc::{AllocError, Global};
 use sws_conn::{Conn, End, Next, Window, serve_one};
-use sws_link::{LinkItem, LinkRead, MemLink, SureFolder, SureLink};
+use sws_link::{LinkItem, LinkRead, MemLink, Memory, SureFolder, SureLink};
 use sws_site::Site;
 
 const GET: &[u8] = b"GET / HTTP/1.1\r\nHost: x\r\n\r\n";
@@ -26,39 +26,34 @@ const GET_AND_HEAD: &[u8] =
 const HEAD_ANSWER: &[u8] =
     b"HTTP/1.1 200 OK\r\nServer: sws\r\nContent-Type: text/plain\r\nContent-Length: 10\r\n\r\n";
 
-/// The bytes, in a vector.
-fn owned(rt: &(impl AllocGlobal + Abort), bytes: &[u8]) -> Vec<u8> {
-    Vec::from_slice(rt.alloc(), bytes).expect(rt, "memory")
-}
-
 /// Three small files.
-const FILES: [(&[u8], &[u8]); 3] = [
+static FILES: [(&[u8], &[u8]); 3] = [
     (b"index.html", b"hi\n"),
     (b"a/b.txt", b"0123456789"),
     (b"empty.css", b""),
 ];
 
-/// The site of the three files.
-fn three_files(rt: &(impl AllocGlobal + Abort)) -> Site {
-    let mut files = Vec::new(rt.alloc());
-    for &(name, bytes) in &FILES {
-        let file = (owned(rt, name), owned(rt, bytes));
-        files.push(file).expect(rt, "memory");
-    }
-    let mut folder = SureFolder::new(rt.alloc(), files);
-    match Site::load(rt.alloc(), &mut folder, None) {
-        Ok(site) => site,
-        Err(_) => panic!(rt; "the site is not loaded"),
-    }
+fn file_of(alloc: Global, name: &[u8], bytes: &[u8]) -> Result<(Vec<u8>, Vec<u8>), Memory> {
+    let name = name.to_vec(alloc)?;
+    Ok((name, bytes.to_vec(alloc)?))
 }
 
-/// The parts, one after another.
-fn joined(rt: &(impl AllocGlobal + Abort), parts: &[&[u8]]) -> Vec<u8> {
-    let mut whole = Vec::new(rt.alloc());
-    for part in parts {
-        whole.extend_from_slice(part).expect(rt, "memory");
+/// The three files, as a folder takes them.
+fn files_of(alloc: Global) -> Result<Vec<(Vec<u8>, Vec<u8>)>, Memory> {
+    let mut files = Vec::new(alloc);
+    for &(name, bytes) in &FILES {
+        files.push(file_of(alloc, name, bytes)?)?;
     }
-    whole
+    Ok(files)
+}
+
+/// The site of the three files, which a sure folder gives wherever there is memory.
+fn three_files(alloc: Global) -> Result<Site, Memory> {
+    let mut folder = SureFolder::new(alloc, files_of(alloc)?);
+    match Site::load(alloc, &mut folder, None) {
+        Ok(site) => Ok(site),
+        Err(_) => Err(Memory),
+    }
 }
 
 /// One line of a script.
@@ -70,85 +65,122 @@ enum Line<'a> {
     Fault,
 }
 
-/// The items of the lines.
-fn items_of(rt: &(impl AllocGlobal + Abort), lines: &[Line<'_>]) -> Vec<LinkItem> {
-    let mut items = Vec::new(rt.alloc());
-    for line in lines {
-        let item = match line {
-            Line::Send(bytes) => LinkItem::Bytes(owned(rt, bytes)),
-            Line::Fill(count) => LinkItem::Fill(*count),
-            Line::Pause(count) => LinkItem::Wait(*count),
-            Line::Fault => LinkItem::Fail,
-        };
-        items.push(item).expect(rt, "memory");
-    }
-    items
+fn item_of(alloc: Global, line: &Line<'_>) -> Result<LinkItem, Memory> {
+    Ok(match line {
+        Line::Send(bytes) => LinkItem::Bytes(bytes.to_vec(alloc)?),
+        Line::Fill(count) => LinkItem::Fill(*count),
+        Line::Pause(count) => LinkItem::Wait(*count),
+        Line::Fault => LinkItem::Fail,
+    })
 }
 
-/// How a connection of these items ends, and what it writes before it shuts its link.
+/// The items of the lines.
+fn items_of(alloc: Global, lines: &[Line<'_>]) -> Result<Vec<LinkItem>, Memory> {
+    let mut items = Vec::new(alloc);
+    for line in lines {
+        items.push(item_of(alloc, line)?)?;
+    }
+    Ok(items)
+}
+
+/// The bytes, each an item of its own.
+fn each_byte(alloc: Global, bytes: &[u8]) -> Result<Vec<LinkItem>, Memory> {
+    let mut items = Vec::new(alloc);
+    for byte in bytes {
+        items.push(LinkItem::Bytes([*byte].to_vec(alloc)?))?;
+    }
+    Ok(items)
+}
+
+/// How a connection of these items ends, with its link, which it has shut.
 fn served(
-    rt: &(impl AllocGlobal + Abort),
+    alloc: Global,
     items: Vec<LinkItem>,
     step: Option<u32>,
     cut: Option<u64>,
-) -> (End, Vec<u8>) {
-    let site = three_files(rt);
-    let link = MemLink::new(rt.alloc(), items, step, cut, Vec::new(rt.alloc()));
-    match serve_one(rt.alloc(), &site, link) {
-        Ok((link, end)) => {
-            assert!(rt; link.is_shut());
-            (end, owned(rt, link.written()))
-        }
-        Err(_) => panic!(rt; "no memory"),
+) -> Result<(MemLink, End), Memory> {
+    let site = three_files(alloc)?;
+    let link = MemLink::new(alloc, items, step, cut, Vec::new(alloc));
+    match serve_one(alloc, &site, link) {
+        Ok(served) => Ok(served),
+        Err(_) => Err(Memory),
     }
 }
 
-/// Whether a connection of these items ends so, and has written these answers.
-fn is_served(
-    rt: &(impl AllocGlobal + Abort),
+/// Whether a connection of these items ends so, has written this and shut its link.
+fn has_served(
+    alloc: Global,
     items: Vec<LinkItem>,
     step: Option<u32>,
     cut: Option<u64>,
     end: End,
-    answers: &[&[u8]],
-) -> bool {
-    let (ended, written) = served(rt, items, step, cut);
-    ended == end && written.as_slice() == joined(rt, answers).as_slice()
+    written: &[u8],
+) -> Result<bool, Memory> {
+    let (link, ended) = served(alloc, items, step, cut)?;
+    Ok(link.is_shut() && ended == end && link.written() == written)
 }
 
-/// The bytes, each an item of its own.
-fn each_byte(rt: &(impl AllocGlobal + Abort), bytes: &[u8]) -> Vec<LinkItem> {
-    let mut items = Vec::new(rt.alloc());
-    for byte in bytes {
-        let item = LinkItem::Bytes(owned(rt, &[*byte]));
-        items.push(item).expect(rt, "memory");
-    }
-    items
+/// Whether a connection of these lines ends so, and has written these answers.
+fn is_served(
+    alloc: Global,
+    lines: &[Line<'_>],
+    step: Option<u32>,
+    cut: Option<u64>,
+    end: End,
+    answers: &[&[u8]],
+) -> Result<bool, Memory> {
+    let written = answers.concat(alloc)?;
+    has_served(alloc, items_of(alloc, lines)?, step, cut, end, &written)
+}
+
+/// Whether a request whose bytes come one by one is sent the answer.
+fn is_served_by_bytes(alloc: Global, bytes: &[u8], answer: &[u8]) -> Result<bool, Memory> {
+    has_served(
+        alloc,
+        each_byte(alloc, bytes)?,
+        None,
+        None,
+        End::Done,
+        answer,
+    )
 }
 
 #[test]
 fn a_request_is_answered_however_it_is_cut_into_pieces(rt: HostRuntime) {
-    let bytes = each_byte(&rt, GET);
-    assert!(rt; is_served(&rt, bytes, None, None, End::Done, &[ANSWER]));
-    let between_line_ends = items_of(&rt, &[Line::Send(&GET[..15]), Line::Send(&GET[15..])]);
-    assert!(rt; is_served(&rt, between_line_ends, None, None, End::Done, &[ANSWER]));
+    assert!(rt; is_served_by_bytes(rt.alloc(), GET, ANSWER) == Ok(true));
+    let lines = [Line::Send(&GET[..15]), Line::Send(&GET[15..])];
+    assert!(rt;
+        is_served(rt.alloc(), &lines, None, None, End::Done, &[ANSWER]) == Ok(true),
+        "between line ends"
+    );
+}
+
+/// So many requests, all but the last of which are answered alike.
+fn is_served_many(alloc: Global, count: usize, len: usize) -> Result<bool, Memory> {
+    let lines = [Line::Send(GET); 65];
+    let most = ANSWER.repeat(alloc, count)?;
+    let written = [most.as_slice(), CLOSING_ANSWER].concat(alloc)?;
+    let is_served = has_served(
+        alloc,
+        items_of(alloc, &lines)?,
+        None,
+        None,
+        End::Done,
+        &written,
+    )?;
+    Ok(is_served && written.len() == len)
 }
 
 #[test]
 fn pipelined_requests_are_answered_in_order(rt: HostRuntime) {
-    let items = items_of(&rt, &[Line::Send(GET_AND_HEAD)]);
+    let lines = [Line::Send(GET_AND_HEAD)];
     let answers = [ANSWER, HEAD_ANSWER];
-    assert!(rt; is_served(&rt, items, Some(1), None, End::Done, &answers));
-
-    let many = items_of(&rt, &[Line::Send(GET); 65]);
-    let most = joined(&rt, &[ANSWER; 63]);
-    assert!(rt; most.len().saturating_add(CLOSING_ANSWER.len()) == 5075);
-    let answers = [most.as_slice(), CLOSING_ANSWER];
-    assert!(rt; is_served(&rt, many, None, None, End::Done, &answers));
+    assert!(rt; is_served(rt.alloc(), &lines, Some(1), None, End::Done, &answers) == Ok(true));
+    assert!(rt; is_served_many(rt.alloc(), 63, 5075) == Ok(true));
 }
 
 /// What a client sends, the answers that it gets, and how its connection ends.
-const SCRIPTS: [(&[Line<'_>], &[&[u8]], End); 7] = [
+static SCRIPTS: [(&[Line<'_>], &[&[u8]], End); 7] = [
     (&[], &[], End::Done),
     (
         &[Line::Send(GET), Line::Send(b"GET /em")],
@@ -187,22 +219,19 @@ const SCRIPTS: [(&[Line<'_>], &[&[u8]], End); 7] = [
 #[test]
 fn a_connection_ends_as_its_script_says(rt: HostRuntime) {
     for &(lines, answers, end) in &SCRIPTS {
-        assert!(rt; is_served(&rt, items_of(&rt, lines), None, None, end, answers));
+        assert!(rt; is_served(rt.alloc(), lines, None, None, end, answers) == Ok(true));
     }
-    let items = items_of(&rt, &[Line::Send(GET)]);
-    assert!(rt; is_served(&rt, items, None, Some(7), End::Fault, &[b"HTTP/1."]));
+    let lines = [Line::Send(GET)];
+    let answers: [&[u8]; 1] = [b"HTTP/1."];
+    assert!(rt; is_served(rt.alloc(), &lines, None, Some(7), End::Fault, &answers) == Ok(true));
 }
 
 /// Whether these lines are sent one answer, which begins so and has so many bytes, and the
 /// connection ends with it.
-fn is_refused(
-    rt: &(impl AllocGlobal + Abort),
-    lines: &[Line<'_>],
-    front: &[u8],
-    len: usize,
-) -> bool {
-    let (end, written) = served(rt, items_of(rt, lines), None, None);
-    end == End::Done && written.len() == len && written.starts_with(front)
+fn is_refused(alloc: Global, lines: &[Line<'_>], front: &[u8], len: usize) -> Result<bool, Memory> {
+    let (link, end) = served(alloc, items_of(alloc, lines)?, None, None)?;
+    let written = link.written();
+    Ok(link.is_shut() && end == End::Done && written.len() == len && written.starts_with(front))
 }
 
 /// The front of a head that is filled up, and its end.
@@ -213,7 +242,7 @@ const LINE_ENDS: Line<'_> = Line::Send(b"\r\n\r\n");
 const WITH_BODY: &[u8] = b"POST / HTTP/1.1\r\nHost: x\r\nContent-Length: 5\r\n\r\nhello";
 
 /// What a client sends, how the answer that refuses it begins, and how many bytes it has.
-const REFUSALS: [(&[Line<'_>], &[u8], usize); 4] = [
+static REFUSALS: [(&[Line<'_>], &[u8], usize); 4] = [
     (&[LONG, Line::Fill(8162), LINE_ENDS], b"HTTP/1.1 431 ", 162),
     (&[Line::Fill(8192)], b"HTTP/1.1 431 ", 162),
     (
@@ -224,20 +253,22 @@ const REFUSALS: [(&[Line<'_>], &[u8], usize); 4] = [
     (&[Line::Send(WITH_BODY)], b"HTTP/1.1 405 ", 154),
 ];
 
+/// A head of 8,192 bytes.
+static LONGEST: [Line<'_>; 3] = [LONG, Line::Fill(8161), LINE_ENDS];
+
 #[test]
 fn a_refusal_closes_the_connection(rt: HostRuntime) {
-    let longest = items_of(&rt, &[LONG, Line::Fill(8161), LINE_ENDS]);
     assert!(rt;
-        is_served(&rt, longest, None, None, End::Done, &[ANSWER]),
+        is_served(rt.alloc(), &LONGEST, None, None, End::Done, &[ANSWER]) == Ok(true),
         "a head of 8,192 bytes"
     );
     for &(lines, front, len) in &REFUSALS {
-        assert!(rt; is_refused(&rt, lines, front, len));
+        assert!(rt; is_refused(rt.alloc(), lines, front, len) == Ok(true));
     }
 }
 
 /// The steps of a connection of one request.
-const STEPS: [Next; 11] = [
+static STEPS: [Next; 11] = [
     Next::Parse,
     Next::Look,
     Next::Write,
@@ -251,15 +282,22 @@ const STEPS: [Next; 11] = [
     Next::Nothing,
 ];
 
-/// Whether a connection waits for a link, and takes one that sends a request and isn't ready once.
-fn opens_so(rt: &(impl AllocGlobal + Abort), conn: &mut Conn<'_, SureLink>) -> bool {
-    let mut items = Vec::new(rt.alloc());
-    let sent = LinkItem::Bytes(owned(rt, GET));
-    items.push(sent).expect(rt, "memory");
-    items.push(LinkItem::Wait(1)).expect(rt, "memory");
+/// A link that sends a request and isn't ready once.
+fn sure_link(alloc: Global) -> Result<SureLink, Memory>
+    ensures { IfOk result IsInitialSureLink }
+{
+    let mut items = Vec::new(alloc);
+    items.push(LinkItem::Bytes(GET.to_vec(alloc)?))?;
+    items.push(LinkItem::Wait(1))?;
+    Ok(SureLink::new(alloc, items, None))
+}
+
+/// Whether a connection waits for a link, and takes this one.
+fn opens_so(conn: &mut Conn<'_, SureLink>, link: SureLink) -> bool
+    requires { IsInitialSureLink link }
+{
     let waits = conn.pending() == Next::Open && conn.step() == Next::Open;
-    let takes = conn.open(SureLink::new(rt.alloc(), items, None)).is_ok();
-    waits && takes
+    waits && conn.open(link).is_ok()
 }
 
 /// Whether the steps of a connection are these.
@@ -290,34 +328,30 @@ fn takes_no_other(alloc: Global, conn: &mut Conn<'_, SureLink>) -> bool {
         .is_err()
 }
 
+/// Whether a connection of one request waits for its link, makes these steps, takes no other link
+/// and gives its own back.
+fn goes_so(alloc: Global, steps: &[Next]) -> Result<bool, Memory> {
+    let site = three_files(alloc)?;
+    let link = sure_link(alloc)?;
+    let mut conn: Conn<'_, SureLink> = Conn::new(alloc, &site)?;
+    let opens = opens_so(&mut conn, link);
+    let ends = steps_so(&mut conn, steps) && has_ended(&conn, 27, 79);
+    let keeps = takes_no_other(alloc, &mut conn);
+    Ok(opens && ends && keeps && conn.into_link().is_some())
+}
+
 #[test]
 fn a_connection_does_one_step_at_a_time(rt: HostRuntime) {
-    let site = three_files(&rt);
-    let mut conn: Conn<'_, SureLink> = match Conn::new(rt.alloc(), &site) {
-        Ok(conn) => conn,
-        Err(_) => panic!(rt; "no memory"),
-    };
-    assert!(rt; opens_so(&rt, &mut conn));
-    assert!(rt; steps_so(&mut conn, &STEPS) && has_ended(&conn, 27, 79));
-    assert!(rt; takes_no_other(rt.alloc(), &mut conn));
-    assert!(rt; conn.into_link().is_some());
+    assert!(rt; goes_so(rt.alloc(), &STEPS) == Ok(true));
 }
 
 /// A piece of bytes of many values.
-fn mixed(rt: &(impl AllocGlobal + Abort), count: usize) -> Vec<u8> {
-    let mut bytes = Vec::new(rt.alloc());
+fn mixed(alloc: Global, count: usize) -> Result<Vec<u8>, AllocError> {
+    let mut bytes = Vec::new(alloc);
     for i in 0..count {
-        bytes.push((i % 251) as u8).expect(rt, "memory");
+        bytes.push((i % 251) as u8)?;
     }
-    bytes
-}
-
-/// A window without bytes.
-fn empty_window(rt: &(impl AllocGlobal + Abort)) -> Window {
-    match Window::new(rt.alloc()) {
-        Ok(window) => window,
-        Err(_) => panic!(rt; "no memory"),
-    }
+    Ok(bytes)
 }
 
 /// What is done with a window, and what comes of it.
@@ -350,18 +384,21 @@ fn comes_so(window: &mut Window, link: &mut MemLink, turn: Turn) -> bool
     }
 }
 
-/// Does this with the window in turn.
-fn play(rt: &impl Abort, window: &mut Window, link: &mut MemLink, turns: &[Turn])
+/// Does this with the window in turn, and says whether it all comes so and these bytes are left.
+fn leaves(window: &mut Window, link: &mut MemLink, turns: &[Turn], bytes: &[u8]) -> bool
     requires { link.old.shut ≡ false }
     ensures { link.new.shut ≡ false }
 {
     'turns: for turn in turns {
-        assert!(rt; comes_so(window, link, *turn));
+        if !comes_so(window, link, *turn) {
+            return false;
+        }
     }
+    window.bytes() == bytes
 }
 
 /// A window takes less than a head and one read, and then another.
-const FILLS: [Turn; 7] = [
+static FILLS: [Turn; 7] = [
     Turn::Fill(LinkRead::Took(4096)),
     Turn::Fill(LinkRead::Took(4095)),
     Turn::Fill(LinkRead::Took(4096)),
@@ -371,49 +408,67 @@ const FILLS: [Turn; 7] = [
     Turn::Fill(LinkRead::Took(4096)),
 ];
 
-#[test]
-fn a_window_holds_less_than_a_head_and_one_read(rt: HostRuntime) {
-    let piece = mixed(&rt, 4096);
+/// A link that sends these lines.
+fn link_of(alloc: Global, lines: &[Line<'_>]) -> Result<MemLink, Memory>
+    ensures { IfOk result (λ link. link.shut ≡ false) }
+{
+    let items = items_of(alloc, lines)?;
+    Ok(MemLink::new(alloc, items, None, None, Vec::new(alloc)))
+}
+
+/// Whether a window takes this piece behind what it had, and keeps it where nothing more comes.
+fn window_holds(alloc: Global, piece: &[u8]) -> Result<bool, Memory> {
     let lines = [
         Line::Fill(4096),
         Line::Fill(4095),
         Line::Fill(4096),
-        Line::Send(&piece),
+        Line::Send(piece),
     ];
-    let mut link = link_of(&rt, &lines);
-    let mut window = empty_window(&rt);
-    play(&rt, &mut window, &mut link, &FILLS);
-    assert!(rt; window.bytes() == piece.as_slice());
-    play(&rt, &mut window, &mut link, &[Turn::Fill(LinkRead::End)]);
-    assert!(rt; window.bytes() == piece.as_slice());
+    let mut link = link_of(alloc, &lines)?;
+    let mut window = Window::new(alloc)?;
+    Ok(
+        leaves(&mut window, &mut link, &FILLS, piece)
+            && leaves(&mut window, &mut link, &[Turn::Fill(LinkRead::End)], piece),
+    )
 }
 
-/// A link that sends these lines.
-fn link_of(rt: &(impl AllocGlobal + Abort), lines: &[Line<'_>]) -> MemLink
-    ensures { result.shut ≡ false }
-{
-    let items = items_of(rt, lines);
-    MemLink::new(rt.alloc(), items, None, None, Vec::new(rt.alloc()))
+fn window_holds_mixed(alloc: Global, count: usize) -> Result<bool, Memory> {
+    window_holds(alloc, &mixed(alloc, count)?)
+}
+
+#[test]
+fn a_window_holds_less_than_a_head_and_one_read(rt: HostRuntime) {
+    assert!(rt; window_holds_mixed(rt.alloc(), 4096) == Ok(true));
 }
 
 /// A window slides twice.
-const SLIDES: [Turn; 4] = [
+static SLIDES: [Turn; 4] = [
     Turn::Fill(LinkRead::Took(4096)),
     Turn::Fill(LinkRead::Took(4096)),
     Turn::Drop(8000),
     Turn::Fill(LinkRead::Took(4096)),
 ];
 
-const SLIDES_AGAIN: [Turn; 2] = [Turn::Drop(4200), Turn::Fill(LinkRead::Took(4096))];
+static SLIDES_AGAIN: [Turn; 2] = [Turn::Drop(4200), Turn::Fill(LinkRead::Took(4096))];
+
+/// Whether a window that slides twice over these bytes has the right ones of them.
+fn window_slides(alloc: Global, all: &[u8]) -> Result<bool, Memory> {
+    if all.len() != 16384 {
+        return Ok(false);
+    }
+    let mut link = link_of(alloc, &[Line::Send(all)])?;
+    let mut window = Window::new(alloc)?;
+    Ok(
+        leaves(&mut window, &mut link, &SLIDES, &all[8000..12288])
+            && leaves(&mut window, &mut link, &SLIDES_AGAIN, &all[12200..]),
+    )
+}
+
+fn window_slides_over_mixed(alloc: Global, count: usize) -> Result<bool, Memory> {
+    window_slides(alloc, &mixed(alloc, count)?)
+}
 
 #[test]
 fn a_window_keeps_its_bytes_when_it_slides(rt: HostRuntime) {
-    let all = mixed(&rt, 16384);
-    assert!(rt; all.len() == 16384);
-    let mut link = link_of(&rt, &[Line::Send(&all)]);
-    let mut window = empty_window(&rt);
-    play(&rt, &mut window, &mut link, &SLIDES);
-    assert!(rt; window.bytes() == &all[8000..12288]);
-    play(&rt, &mut window, &mut link, &SLIDES_AGAIN);
-    assert!(rt; window.bytes() == &all[12200..]);
+    assert!(rt; window_slides_over_mixed(rt.alloc(), 16384) == Ok(true));
 }

@@ -1,4 +1,5 @@
 //! The lines of an access log, as text.
+use std::alloc::{AllocError, Global};
 use std::test::*;
 use sws_link::{MemSink, Put, SureSink};
 use sws_log::{Brief, LogLine, write_log};
@@ -6,7 +7,7 @@ use sws_log::{Brief, LogLine, write_log};
 /// The connection, the number of the answer, its code, its bytes and its target.
 type Row = (u16, u16, u16, u64, &'static [u8]);
 
-const ROWS: [Row; 4] = [
+static ROWS: [Row; 4] = [
     (0, 1, 200, 79, b"/"),
     (0, 2, 200, 78, b"/a/b.txt"),
     (3, 64, 431, 162, b"-"),
@@ -26,27 +27,30 @@ fn line(row: Row) -> LogLine {
     }
 }
 
-#[test]
-fn lines_are_written_one_after_another(rt: HostRuntime) -> Result<(), Fail> {
-    let mut lines = Vec::new(rt.alloc());
-    for &row in &ROWS {
+/// The lines of the rows.
+fn lines_of(alloc: Global, rows: &[Row]) -> Result<Vec<LogLine>, AllocError> {
+    let mut lines = Vec::new(alloc);
+    for &row in rows {
         lines.push(line(row))?;
     }
-    let mut sink = SureSink::new(rt.alloc());
-    assert!(rt; write_log(rt.alloc(), &mut sink, &lines) == Put::Done);
-    assert!(rt; sink.written() == TEXT);
-    Ok(())
+    Ok(lines)
+}
+
+/// Whether a log of these rows is this text.
+fn is_written_as(alloc: Global, rows: &[Row], text: &[u8]) -> Result<bool, AllocError> {
+    let lines = lines_of(alloc, rows)?;
+    let mut sink = SureSink::new(alloc);
+    Ok(write_log(alloc, &mut sink, &lines) == Put::Done && sink.written() == text)
 }
 
 #[test]
-fn a_log_of_no_lines_is_empty(rt: HostRuntime) {
-    let mut sink = SureSink::new(rt.alloc());
-    assert!(rt; write_log(rt.alloc(), &mut sink, &[]) == Put::Done);
-    assert!(rt; sink.written().is_empty());
+fn lines_are_written_one_after_another(rt: HostRuntime) {
+    assert!(rt; is_written_as(rt.alloc(), &ROWS, TEXT) == Ok(true));
+    assert!(rt; is_written_as(rt.alloc(), &[], b"") == Ok(true), "no lines");
 }
 
 /// Targets, and what is kept of each.
-const TARGETS: [(&[u8], &[u8]); 4] = [
+static TARGETS: [(&[u8], &[u8]); 4] = [
     (&[b'a'; 70], &[b'a'; 64]),
     (&[b'a'; 64], &[b'a'; 64]),
     (b"/a", b"/a"),
@@ -62,11 +66,14 @@ fn a_target_is_cut_behind_its_64th_byte(rt: HostRuntime) {
     assert!(rt; Brief::of(b"/a") != Brief::of(b"/b"));
 }
 
+/// What a log of a row answers at a sink whose first call fails, and how much that has kept.
+fn failing_log(alloc: Global, row: Row) -> Result<(Put, usize), AllocError> {
+    let mut sink = MemSink::new(alloc, [1].to_vec(alloc)?);
+    let put = write_log(alloc, &mut sink, &[line(row)]);
+    Ok((put, sink.written().len()))
+}
+
 #[test]
-fn a_sink_that_fails_is_told_of_a_log(rt: HostRuntime) -> Result<(), Fail> {
-    let mut sink = MemSink::new(rt.alloc(), vec![in rt.alloc(); 1]?);
-    let lines = [line((0, 1, 200, 79, b"/"))];
-    assert!(rt; write_log(rt.alloc(), &mut sink, &lines) == Put::Failed);
-    assert!(rt; sink.written().is_empty());
-    Ok(())
+fn a_sink_that_fails_is_told_of_a_log(rt: HostRuntime) {
+    assert!(rt; failing_log(rt.alloc(), (0, 1, 200, 79, b"/")) == Ok((Put::Failed, 0)));
 }

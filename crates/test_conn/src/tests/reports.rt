@@ -1,6 +1,6 @@
 use mely_event::{Colour, Event};
 use mely_history::Entry;
-use std::process::Abort;
+use std::alloc::{AllocError, Global};
 use sws_conn::End;
 use sws_link::{MemSink, Put, SureSink};
 use sws_report::{write_conn, write_journal, write_summary};
@@ -13,7 +13,7 @@ const EMPTY: &[u8] =
     b"HTTP/1.1 200 OK\r\nServer: sws\r\nContent-Type: text/css\r\nContent-Length: 0\r\n\r\n";
 
 /// Connections with how they end and what they were sent, and the text that shows them.
-const THREE: [(u16, End, &[u8]); 3] = [
+static THREE: [(u16, End, &[u8]); 3] = [
     (0, End::Done, HELLO),
     (1, End::Done, EMPTY),
     (2, End::Done, b""),
@@ -22,16 +22,18 @@ const THREE: [(u16, End, &[u8]); 3] = [
 const THREE_SHOWN: &[u8] =
     b"conn 0 done 79\n| HTTP/1.1 200 OK~\n| Server: sws~\n| Content-Type: text/html~\n| Content-Length: 3~\n| ~\n| hi\\n\nconn 1 done 75\n| HTTP/1.1 200 OK~\n| Server: sws~\n| Content-Type: text/css~\n| Content-Length: 0~\n| ~\nconn 2 done 0\n";
 
-#[test]
-fn three_connections_are_shown_line_by_line(rt: HostRuntime) {
-    let mut sink = SureSink::new(rt.alloc());
-    for &(number, end, written) in &THREE {
-        assert!(rt; write_conn(rt.alloc(), &mut sink, number, end, written) == Put::Done);
+/// Whether these connections are shown so, one after another.
+fn are_shown(alloc: Global, conns: &[(u16, End, &[u8])], shown: &[u8]) -> bool {
+    let mut sink = SureSink::new(alloc);
+    for &(number, end, written) in conns {
+        if end == End::Memory || write_conn(alloc, &mut sink, number, end, written) != Put::Done {
+            return false;
+        }
     }
-    assert!(rt; sink.written() == THREE_SHOWN);
+    sink.written() == shown
 }
 
-const CUT: [(u16, End, &[u8]); 2] = [
+static CUT: [(u16, End, &[u8]); 2] = [
     (0, End::Fault, b"HTTP/1."),
     (7, End::Idle, b"\r\n\r\x00\n~\\\t\xff"),
 ];
@@ -40,12 +42,12 @@ const CUT_SHOWN: &[u8] =
     b"conn 0 fault 7\n| HTTP/1.\nconn 7 idle 9\n| ~\n| \\r\\x00\\n\n| \\~\\\\\\t\\xff\n";
 
 #[test]
-fn a_line_that_is_cut_is_shown(rt: HostRuntime) {
-    let mut sink = SureSink::new(rt.alloc());
-    for &(number, end, written) in &CUT {
-        assert!(rt; write_conn(rt.alloc(), &mut sink, number, end, written) == Put::Done);
-    }
-    assert!(rt; sink.written() == CUT_SHOWN);
+fn connections_are_shown_line_by_line(rt: HostRuntime) {
+    assert!(rt; are_shown(rt.alloc(), &THREE, THREE_SHOWN));
+    assert!(rt;
+        are_shown(rt.alloc(), &CUT, CUT_SHOWN),
+        "lines that are cut"
+    );
 }
 
 /// The journal of a connection without input that two workers serve by a schedule.
@@ -67,7 +69,7 @@ enum Row {
 }
 
 /// The entries of the journal's first shard.
-const ENTRIES: [Row; 22] = [
+static ENTRIES: [Row; 22] = [
     Row::Reg(0, 0, 0, 2),
     Row::Take(0, 0),
     Row::Reg(1, 2, 0, 0),
@@ -117,47 +119,58 @@ fn entry_of(row: Row) -> Entry {
     }
 }
 
+/// The history of the rows.
+fn history_of(alloc: Global, rows: &[Row]) -> Result<Vec<Entry>, AllocError> {
+    let mut history = Vec::new(alloc);
+    for &row in rows {
+        history.push(entry_of(row))?;
+    }
+    Ok(history)
+}
+
+/// Whether the journal of a history of the rows and of an empty one is this text.
+fn is_journal(alloc: Global, rows: &[Row], text: &[u8]) -> Result<bool, AllocError> {
+    let histories = [history_of(alloc, rows)?, Vec::new(alloc)];
+    let mut sink = SureSink::new(alloc);
+    Ok(write_journal(alloc, &mut sink, &histories) == Put::Done && sink.written() == text)
+}
+
 #[test]
 fn a_journal_has_a_line_for_each_entry(rt: HostRuntime) {
-    let mut history = Vec::new(rt.alloc());
-    for &row in &ENTRIES {
-        history.push(entry_of(row)).ok().expect(&rt, "memory");
-    }
-    let histories = [history, Vec::new(rt.alloc())];
-    let mut sink = SureSink::new(rt.alloc());
-    assert!(rt; write_journal(rt.alloc(), &mut sink, &histories) == Put::Done);
-    assert!(rt; sink.written() == JOURNAL);
+    assert!(rt; is_journal(rt.alloc(), &ENTRIES, JOURNAL) == Ok(true));
 }
 
-/// So many bytes of a transcript.
-fn many(rt: &(impl AllocGlobal + Abort), count: usize) -> Vec<u8> {
-    let mut bytes = Vec::new(rt.alloc());
-    for _ in 0..count {
-        bytes.push(b'a').ok().expect(rt, "memory");
-    }
-    bytes
+/// What the transcript of a connection answers at a sink whose call of this number fails, and how
+/// much that has kept.
+fn failing_conn(alloc: Global, failing: u32, written: &[u8]) -> Result<(Put, usize), AllocError> {
+    let mut sink = MemSink::new(alloc, [failing].to_vec(alloc)?);
+    let put = write_conn(alloc, &mut sink, 0, End::Done, written);
+    Ok((put, sink.written().len()))
 }
 
-/// A sink whose write of this number is to fail.
-fn failing_sink(rt: &(impl AllocGlobal + Abort), failing: u32) -> MemSink {
-    let mut calls = Vec::new(rt.alloc());
-    calls.push(failing).ok().expect(rt, "memory");
-    MemSink::new(rt.alloc(), calls)
+/// What a transcript of so many bytes answers where the second write fails, and how much is kept.
+fn cut_transcript(alloc: Global, count: usize) -> Result<(Put, usize), AllocError> {
+    failing_conn(alloc, 2, &b"a".repeat(alloc, count)?)
+}
+
+/// How many bytes a transcript of so many bytes is written in.
+fn transcript_length(alloc: Global, count: usize) -> Result<Option<usize>, AllocError> {
+    let bytes = b"a".repeat(alloc, count)?;
+    let mut sink = SureSink::new(alloc);
+    let is_done = write_conn(alloc, &mut sink, 0, End::Done, &bytes) == Put::Done;
+    Ok(is_done.then_some(sink.written().len()))
 }
 
 #[test]
 fn a_long_transcript_is_written_in_pieces(rt: HostRuntime) {
-    let bytes = many(&rt, 100_000);
-    let mut failing = failing_sink(&rt, 2);
-    let put = write_conn(rt.alloc(), &mut failing, 0, End::Done, &bytes);
-    assert!(rt; put == Put::Failed);
-    assert!(rt; failing.written().len() >= 65_536);
-    assert!(rt; failing.written().len() < 70_000);
-    let mut sink = SureSink::new(rt.alloc());
-    let put = write_conn(rt.alloc(), &mut sink, 0, End::Done, &bytes);
-    assert!(rt; put == Put::Done);
+    assert!(rt;
+        matches!(
+            cut_transcript(rt.alloc(), 100_000),
+            Ok((Put::Failed, 65_536..70_000))
+        )
+    );
     let line = b"conn 0 done 100000\n| ".len();
-    assert!(rt; sink.written().len() == line + 100_000 + 1);
+    assert!(rt; transcript_length(rt.alloc(), 100_000) == Ok(Some(line + 100_000 + 1)));
 }
 
 /// Connections by how they end, how many bytes were read and written in all, and the text.
@@ -187,7 +200,5 @@ fn a_summary_counts_the_ends(rt: HostRuntime) {
 
 #[test]
 fn a_sink_that_fails_is_told(rt: HostRuntime) {
-    let mut sink = failing_sink(&rt, 1);
-    assert!(rt; write_conn(rt.alloc(), &mut sink, 0, End::Done, HELLO) == Put::Failed);
-    assert!(rt; sink.written().is_empty());
+    assert!(rt; failing_conn(rt.alloc(), 1, HELLO) == Ok((Put::Failed, 0)));
 }

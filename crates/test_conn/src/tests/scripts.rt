@@ -1,7 +1,6 @@
-use std::process::Abort;
-use std::test::*;
+use std::alloc::{AllocError, Global};
 use sws_link::World;
-use sws_script::{Input, Item, ScriptFault, parse, print, script_world};
+use sws_script::{Input, Item, ScriptConn, ScriptFault, parse, print, script_world};
 
 /// The script of three connections.
 const SCRIPT: &[u8] =
@@ -11,78 +10,97 @@ const SCRIPT: &[u8] =
 const SCHEDULE: &[u8] =
     b"sws-schedule 1\nstep 0 6\nstep 1 12\nend\nsws-script 1\nconn\nstep 1\ncut 7\nsend \\n\\r\\t\\\\\\~\\x00\\xff \nfill 65536\npause 1000\nsend  a \nfault\n";
 
-fn read(rt: &(impl AllocGlobal + Abort), text: &[u8], schedule: bool) -> Input {
-    parse(rt.alloc(), text, schedule, 2)
-        .ok()
-        .expect(rt, "the text spells an input")
+fn read(alloc: Global, text: &[u8], schedule: bool) -> Result<Input, ScriptFault> {
+    parse(alloc, text, schedule, 2)
 }
 
-fn refuses(rt: &(impl AllocGlobal + Abort), text: &[u8], schedule: bool, fault: ScriptFault) {
-    match parse(rt.alloc(), text, schedule, 2) {
-        Ok(_) => rt.panic("an input"),
-        Err(found) => assert!(rt; found == fault),
-    }
+/// Why a text is refused.
+fn fault_of(alloc: Global, text: &[u8], schedule: bool) -> Option<ScriptFault> {
+    read(alloc, text, schedule).err()
 }
 
 /// A text, and then another so many times.
-fn repeated(rt: &(impl AllocGlobal + Abort), front: &[u8], more: &[u8], count: usize) -> Vec<u8> {
-    let mut text = Vec::new(rt.alloc());
-    text.extend_from_slice(front).expect(rt, "memory");
-    for _ in 0..count {
-        text.extend_from_slice(more).expect(rt, "memory");
-    }
-    text
+fn repeated(alloc: Global, front: &[u8], more: &[u8], count: usize) -> Result<Vec<u8>, AllocError> {
+    let more = more.repeat(alloc, count)?;
+    [front, more.as_slice()].concat(alloc)
 }
 
 /// Whether a text is read and then printed so.
 fn is_printed_so(
-    rt: &(impl AllocGlobal + Abort),
+    alloc: Global,
     text: &[u8],
     schedule: bool,
     want: &[u8],
-) -> bool {
-    let input = read(rt, text, schedule);
-    let printed = print(rt.alloc(), &input, schedule);
-    printed.ok().expect(rt, "memory").as_slice() == want
+) -> Result<bool, ScriptFault> {
+    let input = read(alloc, text, schedule)?;
+    match print(alloc, &input, schedule) {
+        Ok(printed) => Ok(printed.as_slice() == want),
+        Err(_) => Err(ScriptFault::Memory),
+    }
+}
+
+/// How many connections a script has.
+fn connections_of(alloc: Global, text: &[u8]) -> Result<usize, ScriptFault> {
+    let input = read(alloc, text, false)?;
+    Ok(input.conns.as_slice().len())
 }
 
 #[test]
 fn what_is_printed_is_what_was_read(rt: HostRuntime) {
-    assert!(rt; read(&rt, SCRIPT, false).conns.as_slice().len() == 3);
-    assert!(rt; is_printed_so(&rt, SCRIPT, false, SCRIPT));
+    assert!(rt; connections_of(rt.alloc(), SCRIPT) == Ok(3));
+    assert!(rt; is_printed_so(rt.alloc(), SCRIPT, false, SCRIPT) == Ok(true));
     let short = &SCRIPT[..SCRIPT.len() - 1];
-    assert!(rt; is_printed_so(&rt, short, false, SCRIPT));
-    assert!(rt; is_printed_so(&rt, SCHEDULE, true, SCHEDULE));
+    assert!(rt; is_printed_so(rt.alloc(), short, false, SCRIPT) == Ok(true));
+    assert!(rt; is_printed_so(rt.alloc(), SCHEDULE, true, SCHEDULE) == Ok(true));
+}
+
+/// How many links the world of a script has.
+fn links_of(alloc: Global, text: &[u8]) -> Option<u16> {
+    let input = read(alloc, text, false).ok()?;
+    let conns = input.conns.as_slice();
+    if conns.len() > 65_535 {
+        return None;
+    }
+    let world = script_world(alloc, conns).ok()?;
+    Some(world.total())
 }
 
 #[test]
 fn a_script_has_a_world_of_its_connections(rt: HostRuntime) {
-    let input = read(&rt, SCRIPT, false);
-    let conns = input.conns.as_slice();
-    assert!(rt; conns.len() <= 65_535);
-    let world = script_world(rt.alloc(), conns).ok().expect(&rt, "memory");
-    assert!(rt; world.total() == 3);
+    assert!(rt; links_of(rt.alloc(), SCRIPT) == Some(3));
 }
 
 /// A script of one piece.
 const PIECE: &[u8] = b"sws-script 1\nconn\nsend \\x41~\\x0d\\n";
 
-#[test]
-fn a_piece_has_the_bytes_of_its_text(rt: HostRuntime) {
-    let input = read(&rt, PIECE, false);
-    for conn in input.conns.as_slice() {
+/// Whether each line of each connection sends these bytes.
+fn sends(conns: &[ScriptConn], bytes: &[u8]) -> bool {
+    for conn in conns {
         for item in conn.items.as_slice() {
             match item {
-                Item::Send(bytes) => assert!(rt; bytes.bytes() == b"A\r\n\r\n".as_slice()),
-                _ => rt.panic("no piece"),
+                Item::Send(piece) if piece.bytes() == bytes => {}
+                _ => return false,
             }
         }
     }
-    assert!(rt; is_printed_so(&rt, PIECE, false, b"sws-script 1\nconn\nsend A~~\n"));
+    true
+}
+
+/// Whether each line of each connection of a script sends these bytes.
+fn script_sends(alloc: Global, text: &[u8], bytes: &[u8]) -> Result<bool, ScriptFault> {
+    let input = read(alloc, text, false)?;
+    Ok(sends(input.conns.as_slice(), bytes))
+}
+
+#[test]
+fn a_piece_has_the_bytes_of_its_text(rt: HostRuntime) {
+    assert!(rt; script_sends(rt.alloc(), PIECE, b"A\r\n\r\n") == Ok(true));
+    let want = b"sws-script 1\nconn\nsend A~~\n";
+    assert!(rt; is_printed_so(rt.alloc(), PIECE, false, want) == Ok(true));
 }
 
 /// Scripts that go wrong, and the line where each does.
-const BAD_SCRIPTS: [(&[u8], u32); 24] = [
+static BAD_SCRIPTS: [(&[u8], u32); 24] = [
     (b"", 1),
     (b"\n", 1),
     (b"sws-script 1\nhello", 2),
@@ -112,12 +130,12 @@ const BAD_SCRIPTS: [(&[u8], u32); 24] = [
 #[test]
 fn a_fault_names_the_first_line_that_may_not_follow(rt: HostRuntime) {
     for &(text, line) in &BAD_SCRIPTS {
-        refuses(&rt, text, false, ScriptFault::Bad { line });
+        assert!(rt; fault_of(rt.alloc(), text, false) == Some(ScriptFault::Bad { line }));
     }
 }
 
 /// Schedules with scripts that go wrong, and the line where each does.
-const BAD_SCHEDULES: [(&[u8], u32); 7] = [
+static BAD_SCHEDULES: [(&[u8], u32); 7] = [
     (b"sws-script 1\n", 1),
     (b"sws-schedule 1\n", 2),
     (b"sws-schedule 1\nend", 3),
@@ -127,19 +145,30 @@ const BAD_SCHEDULES: [(&[u8], u32); 7] = [
     (b"sws-schedule 1\nstep 1\nend\nsws-script 1\n", 2),
 ];
 
+/// Why a schedule with so many steps is refused.
+fn fault_of_steps(alloc: Global, count: usize) -> Result<Option<ScriptFault>, AllocError> {
+    let text = repeated(alloc, b"sws-schedule 1\n", b"step 0 1000000\n", count)?;
+    Ok(fault_of(alloc, &text, true))
+}
+
 #[test]
 fn a_schedule_has_its_limits(rt: HostRuntime) {
     for &(text, line) in &BAD_SCHEDULES {
-        refuses(&rt, text, true, ScriptFault::Bad { line });
+        assert!(rt; fault_of(rt.alloc(), text, true) == Some(ScriptFault::Bad { line }));
     }
-    let text = repeated(&rt, b"sws-schedule 1\n", b"step 0 1000000\n", 11);
-    refuses(&rt, &text, true, ScriptFault::Bad { line: 12 });
+    let fault = ScriptFault::Bad { line: 12 };
+    assert!(rt; fault_of_steps(rt.alloc(), 11) == Ok(Some(fault)));
+}
+
+/// How many connections are read of a script that has so many.
+fn read_of(alloc: Global, count: usize) -> Result<Result<usize, ScriptFault>, AllocError> {
+    let text = repeated(alloc, b"sws-script 1\n", b"conn\n", count)?;
+    Ok(connections_of(alloc, &text))
 }
 
 #[test]
 fn there_are_1024_connections_at_most(rt: HostRuntime) {
-    let text = repeated(&rt, b"sws-script 1\n", b"conn\n", 1_024);
-    assert!(rt; read(&rt, &text, false).conns.as_slice().len() == 1_024);
-    let text = repeated(&rt, b"sws-script 1\n", b"conn\n", 1_025);
-    refuses(&rt, &text, false, ScriptFault::TooMany { line: 1_026 });
+    assert!(rt; read_of(rt.alloc(), 1_024) == Ok(Ok(1_024)));
+    let fault = ScriptFault::TooMany { line: 1_026 };
+    assert!(rt; read_of(rt.alloc(), 1_025) == Ok(Err(fault)));
 }
