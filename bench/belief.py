@@ -220,7 +220,8 @@ TEXTS = {
     "run_app": "Where it comes to its end, every event that was registered was run, on the state of its colour, once, in the order in which the "
                "events of that colour were registered, and there is a legal history for each shard.",
     "run_actors": "Where it comes to its end, the value of each colour keeps the author's fact over the messages that the colour received and those "
-                  "that it sent. What was received is what was posted and what was sent, by the events under which messages stand in the histories.",
+                  "that it sent. What was received is what was posted and what was sent, by the events under which messages stand in the histories. "
+                  "One thread might have received all messages, one after another, each when it was under way.",
     "answer": "What is written is what the definition of the responses says of the bytes that are read, out of the files of the folder. "
               "`serve_one` says it of one connection over any link that lets contracts know what it carries.",
     "serve": "The world was opened for so many connections, and each was served. A connection whose link tells what it carries was sent a prefix "
@@ -239,7 +240,7 @@ TEXTS = {
 
 # the definitions at the core of each promise, to which the page shows the way
 CORES = {"run_app": ["IsAllowed"], "run_actors": ["IsAllowed"], "answer": ["responses_of"], "serve": ["responses_of", "Exchanges", "IsAllowed"],
-         "keep_serving": ["responses_of", "ThreadsLeave"], "replay": ["transcript_of", "step"], "check": ["IsAllowed"], "gopher": ["reply_of"]}
+         "keep_serving": ["responses_of", "ServerLeaves"], "replay": ["transcript_of", "step"], "check": ["IsAllowed"], "gopher": ["reply_of"]}
 
 
 def impls_of_http(repository):
