@@ -18,10 +18,12 @@
 //! [proofs/SerialLawLemmas.antt](../proofs/SerialLawLemmas.antt)).
 //!
 //! It is said of whatever has come to its end with notes that tell of it, so of a weave
-//! ([`what_a_drained_weave_ran_has_causes`]) as of a run on threads (`run_app` of `mely_app`). The
-//! law is for contracts alone, and a call of it does nothing.
+//! ([`what_a_drained_weave_ran_has_causes`]) as of a run on threads (`run_app` of `mely_app`). So
+//! nothing is made up: no two events are put each by the run of the other
+//! ([`no_two_events_put_each_other`]), although histories of such two count right on each colour.
+//! The laws are for contracts alone, and a call of one does nothing.
 #![tactic(auto)]
 
 mod laws;
 
-pub use laws::what_a_drained_weave_ran_has_causes;
+pub use laws::{no_two_events_put_each_other, what_a_drained_weave_ran_has_causes};

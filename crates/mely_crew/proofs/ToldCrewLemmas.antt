@@ -1,6 +1,6 @@
 -- What the workers of a fleet ran on threads, as the notes tell of it that the fleet leaves when it is
 -- closed.
-use Rattle.std.proofs.Common.{◌≡◌, ℕ, zero, suc, ◌+◌, ◌<◌, ◌≤◌, ◌==◌, List, [], ◌∷◌, ◌++◌, Option, None, Some, Result, Ok, false, if◌then◌else◌, length, map, refl, sym, ◌∙◌, ap, subst, ⊎_elim, arith, append-nil}
+use Rattle.std.proofs.Common.{◌≡◌, ℕ, zero, suc, ◌+◌, ◌<◌, List, [], ◌∷◌, ◌++◌, Option, None, Some, if◌then◌else◌, length, map, refl, sym, ◌∙◌, ap, subst, ⊎_elim, arith, append-nil}
 use Rattle.std.proofs.lemmas.Bool.{cases_eq, ne_eqb}
 use Rattle.std.proofs.lemmas.Option.{same_Some, slice_get_within, slice_get-map}
 use Rattle.std.specs.List.{cons_option}
@@ -10,7 +10,6 @@ use Rattle.mely_event.specs.declared.event.Event.{Event}
 use Rattle.mely_event.specs.declared.trail.Trail.{Ghosts as TrailWords}
 use Rattle.mely_history.specs.Legal.{IsLegal}
 use Rattle.mely_history.specs.Setup.{shape_of, shard_of, place}
-use Rattle.mely_history.specs.declared.registered.Registered.{Registered}
 use Rattle.mely_history.specs.declared.setup.Setup.{Setup}
 use Rattle.mely_lock.specs.Seen.{OthersSince}
 use Rattle.mely_note.specs.declared.note.Note.{Note}
@@ -20,8 +19,6 @@ use Rattle.mely_note.proofs.StampLemmas.{rise-none}
 use Rattle.mely_note.specs.ShowsNotes.{ShowsNotes}
 use Rattle.mely_shard.specs.Shard.{ShardState, ColourState, givens, lane_at}
 use Rattle.mely_tally.specs.Account.{HandlerRun}
-use Rattle.mely_weave.specs.Dealing.{AtEach}
-use Rattle.mely_weave.specs.StandsWell.{StandsWell}
 use Rattle.mely_weave.specs.Weave.{WeaveState}
 use Rattle.mely_weave.proofs.Wholes.GatherLemmas.{get_there}
 use Rattle.mely_worker.specs.declared.app.App.{Ghosts as AppWords}
@@ -33,8 +30,8 @@ use Rattle.mely_kept.specs.declared.kept_shard.ShardFrame.{ShardFrame}
 use Rattle.mely_chain.specs.Deeds.{CoreDid}
 use Rattle.mely_chain.specs.Runs.{puts_on}
 use Rattle.mely_chain.specs.Told.{CoreTold}
-use Rattle.mely_chain.specs.WeaveTold.{ShardTold, WeaveTold, WeaveDid, IsTold}
-use Rattle.mely_chain.proofs.CoreLemmas.{AreLegalNotes, loaded_own, told_first, told_others}
+use Rattle.mely_chain.specs.WeaveTold.{ShardTold, IsTold}
+use Rattle.mely_chain.proofs.CoreLemmas.{AreLegalNotes, told_first, told_others}
 use Rattle.mely_chain.proofs.CoreTurnsLemmas.{legal_notes}
 use Rattle.mely_chain.proofs.DeedLemmas.{did_first, did_others}
 use Rattle.mely_chain.proofs.GrowthLemmas.{by_own, by_others}
@@ -42,7 +39,6 @@ use Rattle.mely_chain.proofs.WeaveToldLemmas.{shard_there, notes_legal}
 use Rattle.mely_fleet.specs.declared.fleet.FleetOf.{FleetOf}
 use Rattle.mely_fleet.specs.declared.passes.PassesOf.{PassesOf}
 use Rattle.mely_fleet.specs.Calls.{SeesAt, front_in, front_for}
-use Rattle.mely_fleet.specs.Closed.{IsClosedShard}
 use Rattle.mely_fleet.specs.ClosesHome.{IsClosedInto}
 use Rattle.mely_fleet.specs.Fleets.{frame_in, given_in, givens_in}
 use Rattle.mely_fleet.specs.Rows.{fronts}

@@ -14,7 +14,8 @@ ghost use Rattle.mely_chain.specs.WeaveTold.{IsTold};
 ghost use Rattle.mely_fleet.specs.Calls.{front_in};
 ghost use Rattle.mely_fleet.specs.Rows.{fronts};
 ghost use Rattle.mely_fleet.specs.Seats.{IsSeatOf, IsOutsider, IsFresh, HasMade, HaveMade};
-ghost use Rattle.mely_crew.specs.Crew.{IsRegistered};
+ghost use Rattle.mely_worker.specs.Gated.{behind};
+ghost use Rattle.mely_crew.specs.Crew.{IsRegistered, RanBehind};
 
 use crate::settling::settle;
 use mely_event::{Colour, Event, Fits, Kept, Memory, Trail, Unregistered};
@@ -123,7 +124,8 @@ fn work_one<R: Wait, S: Fits<P> + Drop, P: Drop, A: App<State = S, Load = P>, G:
         AppServes A.App fleet.now.setup frame app.now }
     ensures seat { IsSeatOf S.frame_of S.fits_under fleet.now number
         seat.new.passes seat.new.worker }
-    ensures made { HasMade S.Trail S.fits_under A.App app.now fleet.now
+    ensures made { HasMade S.Trail S.fits_under
+        (behind S.Trail (G.passes gate.now number) A.App) app.now fleet.now
         seat.old.passes seat.old.worker seat.new.passes seat.new.worker }
 {
     if is_one_back.load(Ordering::SeqCst) {
@@ -147,7 +149,8 @@ fn work_all<
         AppServes A.App fleet.now.setup frame app.now }
     ensures seats { AtEach (λ n seat.
         IsSeatOf S.frame_of S.fits_under fleet.now n seat.passes seat.worker) seats.new }
-    ensures made { HaveMade S.Trail S.fits_under A.App app.now fleet.now seats.old seats.new }
+    ensures made { HaveMade S.Trail S.fits_under
+        (λ n. behind S.Trail (G.passes gate.now n) A.App) app.now fleet.now seats.old seats.new }
 {
     let threads = seats.len();
     if threads == 0 {
@@ -165,7 +168,8 @@ fn work_all<
                 (frame_in (shard_frame S.frame_of) fleet.now) app.now }
             ensures seat { IsSeatOf S.frame_of S.fits_under fleet.entry.now number
                 seat.exit.now.passes seat.exit.now.worker }
-            ensures made { HasMade S.Trail S.fits_under A.App app.entry.now fleet.entry.now
+            ensures made { HasMade S.Trail S.fits_under
+                (behind S.Trail (G.passes gate.entry.now number) A.App) app.entry.now fleet.entry.now
                 seat.entry.now.passes seat.entry.now.worker
                 seat.exit.now.passes seat.exit.now.worker }
         { work_one(rt, fleet, number, seat, &is_one_back, app, gate) },
@@ -174,7 +178,8 @@ fn work_all<
 
 /// Runs an app over a fleet of these states, from its first event on, with a thread for each core,
 /// until nothing is left: the fleet is closed then, and what is left of it drained. All room is
-/// made before the event is posted. It need not return: an app may register for ever.
+/// made before the event is posted. It need not return: an app may register for ever. Each thread
+/// passes the gate before each handler, with its core.
 ///
 /// Where the machine refuses a thread, or starts one a tenth of a second late or more, the others
 /// give up, and the thread of the caller runs what is left, whatever it is, with no gate: a turn of
@@ -211,6 +216,8 @@ pub fn run_crew<
         IsAccounted S.Trail S.fits_under A.App app.now (begin ∷ []) ran.0) }
     ensures told { IfOk result (λ ran. IsTold S.Trail S.fits_under A.App app.now
         (λ c. slice_get states.items c.0) (begin ∷ []) ran.0) }
+    ensures gated { IfOk result (λ ran. RanBehind S.Trail S.fits_under A.App app.now
+        (G.passes gate.now) (λ c. slice_get states.items c.0) (begin ∷ []) ran.1 ran.0) }
     ensures stands { IfOk result (λ ran. StandsWell S.Trail S.fits_under ran.0) }
     ensures free { IfOk result (λ ran. AllFree ran.0) }
     ensures drained { IfOk result (λ ran. ran.1 ≡ Drained.Empty → HistoriesAreDrained ran.0) }

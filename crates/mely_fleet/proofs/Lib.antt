@@ -11,4 +11,5 @@ mod ClosingLemmas
 mod GatherClosedLemmas
 pub mod SeatLemmas
 mod CallLemmas
+pub mod GateLemmas
 pub mod CrossingLemmas

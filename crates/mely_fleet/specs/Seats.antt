@@ -74,13 +74,13 @@ pub record HasMade {R S P F : Type 0} {g : _} (t : TrailWords S F)
   pub rests : worker_after ≡ Some again
   pub makes : MakesOn t fits y app fleet before (resumed_worker rest) after (resumed_worker again)
 
--- each seat made steps, as it stood at its place before
+-- each seat made steps, by the app's words for the core of its place, as it stood there before
 abbrev pub HaveMade : {R S P F : Type 0} {g : _} → TrailWords S F
-    → (F → Colour → Event → Option P → Type 0) → AppWords R P S F → R
+    → (F → Colour → Event → Option P → Type 0) → (ℕ → AppWords R P S F) → R
     → FleetOf (KeptShardState S P) (Note S P) (ShardFrame S F)
     → List (SeatOf (KeptShardState S P) (Option (IdleWorkerState P)) (Note S P) (ShardFrame S F) g)
     → List (SeatOf (KeptShardState S P) (Option (IdleWorkerState P)) (Note S P) (ShardFrame S F) g)
     → Type 0
 HaveMade t fits y app fleet before after = AtEach (λ n seat. (old : _)
     × (slice_get before n ≡ Some old)
-    × HasMade t fits y app fleet old.passes old.worker seat.passes seat.worker) after
+    × HasMade t fits (y n) app fleet old.passes old.worker seat.passes seat.worker) after

@@ -2,6 +2,7 @@
 ghost use Rattle.std.specs.Prelude.{◌≡◌, ◌≤◌, ◌+◌, ◌++◌, ◌↔◌, [], ℕ, Some, true, IfOk, IfSome, IsSome, length, map, slice_get, vec_len, vec_capacity};
 ghost use Rattle.mely_history.specs.Setup.{shape_of};
 ghost use Rattle.mely_worker.specs.Conditions.{AppServes};
+ghost use Rattle.mely_worker.specs.Gated.{behind};
 ghost use Rattle.mely_weave.specs.Dealing.{AtEach};
 ghost use Rattle.mely_fleet.specs.Fleets.{frame_in};
 ghost use Rattle.mely_kept.specs.Frames.{shard_frame};
@@ -98,7 +99,8 @@ impl<S: Fits<P> + Drop, P: Drop> FleetOf<KeptShard<S, P>> {
         requires served { let frame = frame_in (shard_frame S.frame_of) self.now in
             AppServes A.App self.now.setup frame app.now }
         ensures seat { MaySit S.frame_of S.fits_under self.now seat.new.passes seat.new.worker }
-        ensures made { HasMade S.Trail S.fits_under A.App app.now self.now
+        ensures made { HasMade S.Trail S.fits_under
+            (behind S.Trail (G.passes gate.now seat.old.passes.number) A.App) app.now self.now
             seat.old.passes seat.old.worker seat.new.passes seat.new.worker }
         ensures memory { IfSome seat.new.worker (λ rest.
             (result ≡ Worked.Memory) ↔ (rest.halted ≡ true)) }

@@ -4,6 +4,7 @@ ghost use Rattle.mely_worker.specs.Conditions.{AppServes};
 ghost use Rattle.mely_worker.specs.Phase.{is_free};
 ghost use Rattle.mely_kept.specs.Frames.{shard_frame};
 ghost use Rattle.mely_fleet.specs.Fleets.{ArePasses, frame_in};
+ghost use Rattle.mely_worker.specs.Gated.{behind};
 ghost use Rattle.mely_worker.specs.Step.{Steps};
 ghost use Rattle.mely_fleet.specs.Work.{standpoint, words, HasLooked, MakesOn, SeesMore, SeesAllDrained, HasFinishedBut};
 ghost use Rattle.mely_fleet.specs.Working.{MayWorkOn, HasWorked, KeepsLosses};
@@ -45,6 +46,8 @@ impl<S: Fits<P> + Drop, P: Drop> FleetOf<KeptShard<S, P>> {
     /// another hasn't begun after a tenth of a second or more: let all begin at once. A worker that
     /// begins when the others have given up and left is alone, and gives up in turn. That it returns
     /// isn't promised.
+    ///
+    /// The gate is passed before each handler, with the worker's core.
     pub fn work<R: Wait, A: App<State = S, Load = P>, G: Gate>(
         &self,
         rt: &R,
@@ -56,7 +59,8 @@ impl<S: Fits<P> + Drop, P: Drop> FleetOf<KeptShard<S, P>> {
         requires may { MayWorkOn S.Trail S.fits_under self.now passes.old worker.old }
         requires served { let frame = frame_in (shard_frame S.frame_of) self.now in
             AppServes A.App self.now.setup frame app.now }
-        ensures makes { MakesOn S.Trail S.fits_under A.App app.now self.now
+        ensures makes { let app_behind = behind S.Trail (G.passes gate.now passes.old.number) A.App in
+            MakesOn S.Trail S.fits_under app_behind app.now self.now
             passes.old worker.old passes.new worker.new }
         ensures worked { HasWorked S.Trail S.fits_under self.now
             passes.old worker.old passes.new worker.new }
@@ -133,7 +137,7 @@ impl<S: Fits<P> + Drop, P: Drop> FleetOf<KeptShard<S, P>> {
         None
     }
 
-    /// Makes one step of the worker of the core of these passes.
+    /// Makes one step of the worker of the core of these passes, behind the gate.
     fn step<R: Wait, A: App<State = S, Load = P>, G: Gate>(
         &self,
         rt: &R,
@@ -146,8 +150,9 @@ impl<S: Fits<P> + Drop, P: Drop> FleetOf<KeptShard<S, P>> {
         requires served { let frame = frame_in (shard_frame S.frame_of) self.now in
             AppServes A.App self.now.setup frame app.now }
         ensures steps { let at = standpoint (shard_frame S.frame_of) self.now in
-            Steps (words S.Trail S.fits_under) A.App app.now (at passes.old) worker.old
-            result (at passes.new) worker.new }
+            Steps (words S.Trail S.fits_under)
+            (behind S.Trail (G.passes gate.now passes.old.number) A.App) app.now
+            (at passes.old) worker.old result (at passes.new) worker.new }
         ensures worked { HasWorked S.Trail S.fits_under self.now
             passes.old worker.old passes.new worker.new }
     {

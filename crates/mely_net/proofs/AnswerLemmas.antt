@@ -15,7 +15,7 @@ use Rattle.mely_net.specs.Cutting.{cut_within}
 use Rattle.mely_net.specs.Lines.{IsAll, IsLast, IsLine, IsReply, Line, exchange_of, exchanges_in, shown_of, shown_to_fault}
 use Rattle.mely_net.specs.Rules.{Rules}
 use Rattle.mely_net.specs.Talks.{ClientView, IsAnswered, IsCarried, IsSpoken, IsTalk, IsTold, Request, frame_of, replies_of, requests_of}
-use Rattle.mely_net.proofs.FrameLemmas.{all_push, frames_of_push, frames_push, last_push, replies_push, requests_push, shown_push}
+use Rattle.mely_net.proofs.FrameLemmas.{all_push, frames_of_push, frames_push, has_last_push, last_push, replies_push, requests_push, shown_push}
 use Rattle.mely_net.proofs.TalkLemmas.{failure_all, none_under_way, not_both}
 
 -- nobody waits where no request is under way
@@ -130,6 +130,8 @@ module _ {Q P C : Type 0} (rules : Rules Q P C) where
       strays = λ e. absurd (let never : ⊥ = cc (goes, e) in never);
       goes_on = λ e. record { not_last = idle.none_last; no_fault = refl };
       idle = λ e. not_both client.is_last e not_last;
+      over = λ e. not_both client.is_last e not_last;
+      done = λ e. absurd (let never : ⊥ = cc (goes, e) in never);
       fresh = λ e. not_both client.has_come come e;
       empty = λ e _. not_both client.has_come come e;
     };
@@ -146,9 +148,9 @@ module _ {Q P C : Type 0} (rules : Rules Q P C) where
 
   -- the connection itself answers
   pub answers_here : (asks : List (ℕ × Q)) (replies : List (ℕ × P)) (client after : ClientView) (frame behind : List ℕ) (asked : Asked Q P) (reply : P) (last : Bool) → client.has_come ≡ true → client.end ≡ None → client.asked ≡ None
-      → client.inbox ≡ frame ++ behind → cut_within rules.cut rules.longest client.inbox ≡ cut.Frame (length frame) → rules.Asks frame asked → IsReply asked reply → exchange_of reply asked ≡ None → (last ≡ false → IsLast asked → ⊥)
+      → client.inbox ≡ frame ++ behind → cut_within rules.cut rules.longest client.inbox ≡ cut.Frame (length frame) → rules.Asks frame asked → IsReply asked reply → exchange_of reply asked ≡ None → (last ≡ false → IsLast asked → ⊥) → (last ≡ true → IsLast asked)
       → Says (rules.shown reply) (record client { inbox = behind; is_last = last }) after → IsIdle asks replies client → IsTalk rules asks replies after
-  answers_here asks replies client after frame behind asked reply last come goes waits_not parts is asks_it replies_it own not_last says idle =
+  answers_here asks replies client after frame behind asked reply last come goes waits_not parts is asks_it replies_it own not_last is_last says idle =
       let line : Line Q P = record { frame = frame; asked = asked; reply = reply } in
       let none : exchanges_in (line ∷ []) ≡ [] = ap (λ o. cons_option o []) own in
       record {
@@ -171,6 +173,8 @@ module _ {Q P C : Type 0} (rules : Rules Q P C) where
           strays = λ e. absurd (let old = says.same.strays e in let never : ⊥ = cc (goes, old) in never);
           goes_on = λ e. record { not_last = all_push (λ (one : Line Q P). IsLast one.asked → ⊥) idle.lines line idle.none_last (not_last (sym says.same.is_last ∙ e)); no_fault = refl };
           idle = λ e. refl;
+          over = λ e. inl (has_last_push idle.lines line (is_last (sym says.same.is_last ∙ e)));
+          done = λ e. absurd (let old = says.same.done e in let never : ⊥ = cc (goes, old) in never);
           fresh = λ e. not_both client.has_come come (sym says.same.has_come ∙ e);
           empty = λ e _. not_both client.has_come come (sym says.same.has_come ∙ e);
         };
@@ -196,6 +200,8 @@ module _ {Q P C : Type 0} (rules : Rules Q P C) where
       strays = λ e. absurd (let old = says.same.strays e in let never : ⊥ = cc (goes, old) in never);
       goes_on = λ e. absurd (let same = says.same.is_last in let never : ⊥ = cc (same, e) in never);
       idle = λ e. refl;
+      over = λ e. inr (λ none. let never : ⊥ = cc none in never);
+      done = λ e. absurd (let old = says.same.done e in let never : ⊥ = cc (goes, old) in never);
       fresh = λ e. not_both client.has_come come (sym says.same.has_come ∙ e);
       empty = λ e _. not_both client.has_come come (sym says.same.has_come ∙ e);
     };

@@ -1,5 +1,5 @@
 -- Frames, as more bytes come, and lines behind one another.
-use Rattle.std.proofs.Common.{◌≡◌, ℕ, Bool, true, false, List, [], ◌∷◌, ◌++◌, if◌then◌else◌, length, map, refl, sym, ◌∙◌, ap, subst}
+use Rattle.std.proofs.Common.{◌≡◌, ℕ, Bool, true, false, List, [], ◌∷◌, ◌++◌, if◌then◌else◌, length, map, refl, sym, ◌∙◌, ap, subst, inl, inr}
 use Rattle.std.proofs.lemmas.List.{append-nil, append_assoc, map-append}
 use Rattle.std.proofs.lemmas.List.Elements.{filter_map-append}
 use Rattle.std.proofs.lemmas.Grind.{flat_map-append}
@@ -9,7 +9,7 @@ use Rattle.mely_net.specs.declared.cut.Cut.{Cut}
 use Rattle.mely_net.specs.declared.cut.Cut.TheVariants.{More, Frame, Fault}
 use Rattle.mely_net.specs.Cutting.{AreFrames, IsSteady, Stands, cut_within, limited}
 use Rattle.mely_net.specs.Exchanges.{Exchange}
-use Rattle.mely_net.specs.Lines.{EndAtLast, IsLast, Line, exchange_of, exchanges_in, shown_of}
+use Rattle.mely_net.specs.Lines.{EndAtLast, HasLast, IsLast, Line, exchange_of, exchanges_in, shown_of}
 use Rattle.mely_net.specs.Rules.{Rules}
 use Rattle.mely_net.specs.Talks.{replies_of, requests_of}
 
@@ -74,6 +74,11 @@ module _ {Q P : Type 0} (lines : List (Line Q P)) (line : Line Q P) where
 
   pub shown_push : {C : Type 0} (rules : Rules Q P C) → shown_of rules (lines ++ line ∷ []) ≡ shown_of rules lines ++ rules.shown line.reply
   shown_push rules = flat_map-append (λ (one : Line Q P). rules.shown one.reply) lines (line ∷ []) ∙ ap (λ l. shown_of rules lines ++ l) (append-nil (rules.shown line.reply))
+
+-- a line that is the last
+pub has_last_push : {Q P : Type 0} (lines : List (Line Q P)) (line : Line Q P) → IsLast line.asked → HasLast (lines ++ line ∷ [])
+has_last_push [] line last = inl last
+has_last_push (one ∷ lines) line last = inr (has_last_push lines line last)
 
 -- a line may come behind those of which none is the last
 pub last_push : {Q P : Type 0} (lines : List (Line Q P)) (line : Line Q P) → AllByRecursion (λ one. IsLast one.asked → ⊥) lines → EndAtLast (lines ++ line ∷ [])

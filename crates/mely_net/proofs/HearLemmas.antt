@@ -13,6 +13,7 @@ use Rattle.mely_net.specs.Rules.{Rules}
 use Rattle.mely_net.specs.Talks.{ClientView, Hears, IsAnswered, IsAsked, IsKnown, IsTold, Request, asked_by, frame_of, replies_of, requests_of}
 use Rattle.mely_net.proofs.FrameLemmas.{all_push, last_push, replies_push, requests_push}
 use Rattle.mely_net.proofs.AnswerLemmas.{line_carried}
+use Rattle.mely_net.proofs.TalkLemmas.{not_both}
 
 -- a number that is there
 pub there_so : (o : Option ℕ) (n : ℕ) → option_eq eqb o (Some n) ≡ true → o ≡ Some n
@@ -45,6 +46,10 @@ pushed_some (y ∷ xs) x is = cc is
 pub ended_some : (end : End) (old : Option End) → ended_by end old ≡ None → ⊥
 ended_some end None is = cc is
 ended_some end (Some old) is = cc is
+
+astray_done : (end : Option End) → ended_by ends.Astray end ≡ Some ends.Done → end ≡ Some ends.Done
+astray_done None is = absurd (let never : ⊥ = cc is in never)
+astray_done (Some end) is = is
 
 astray_left : (end : Option End) → ended_by ends.Astray end ≡ Some ends.Left → end ≡ Some ends.Left
 astray_left None is = absurd (let never : ⊥ = cc is in never)
@@ -96,6 +101,8 @@ module _ {Q P C : Type 0} (rules : Rules Q P C) where
           strays = λ e. absurd (talk.kept.strays (says.same.strays e) known.0);
           goes_on = λ e. record { not_last = all_push (λ (l : Line Q P). IsLast l.asked → ⊥) talk.lines line on.not_last (λ never. never); no_fault = refl };
           idle = λ e. refl;
+          over = λ e. not_both client.is_last (sym says.same.is_last ∙ e) (not_last_so client.is_last talk.under_way one talk.kept.idle there);
+          done = λ e. not_both client.is_last (talk.kept.done (says.same.done e)) (not_last_so client.is_last talk.under_way one talk.kept.idle there);
           fresh = λ e. absurd (let none = (talk.kept.fresh (sym says.same.has_come ∙ e)).no_request in let never : ⊥ = cc (none, there) in never);
           empty = λ e _. absurd (let none = (talk.kept.fresh (sym says.same.has_come ∙ e)).no_request in let never : ⊥ = cc (none, there) in never);
         };
@@ -134,6 +141,8 @@ module _ {Q P C : Type 0} (rules : Rules Q P C) where
       strays = λ _. pushed_some talk.astray (cell, reply);
       goes_on = talk.kept.goes_on;
       idle = talk.kept.idle;
+      over = talk.kept.over;
+      done = λ e. talk.kept.done (astray_done client.end e);
       fresh = talk.kept.fresh;
       empty = λ _ e. absurd (ended_some ends.Astray client.end e);
     };

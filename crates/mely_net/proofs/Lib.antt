@@ -6,3 +6,4 @@ mod HearLemmas
 mod PickLemmas
 mod PartLemmas
 mod ServedLemmas
+mod BoundLemmas

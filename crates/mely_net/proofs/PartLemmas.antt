@@ -34,6 +34,8 @@ module _ {Q P C : Type 0} (rules : Rules Q P C) where
       strays = λ e _. cc e;
       goes_on = λ _. record { not_last = tt; no_fault = refl };
       idle = λ _. refl;
+      over = λ e. absurd (let never : ⊥ = cc e in never);
+      done = λ e. absurd (let never : ⊥ = cc e in never);
       fresh = λ _. record { no_lines = refl; no_request = refl; no_fault = refl };
       empty = λ _ _. record { no_inbox = refl; no_outbox = refl };
     };

@@ -37,7 +37,7 @@ get_there (x ∷ xs) zero low = (x, refl)
 get_there (x ∷ xs) (suc n) low = get_there xs n (omega (arith, low))
 
 -- what stands beside a number
-abbrev with_peer : {X : Type 0} → ℕ → ℕ × X → Option X
+abbrev pub with_peer : {X : Type 0} → ℕ → ℕ × X → Option X
 with_peer peer one = if one.0 == peer then Some one.1 else None
 
 -- ---- exchanges by their requests and by their replies
@@ -62,7 +62,7 @@ length_mapped f [] = refl
 length_mapped f (x ∷ xs) = let rest = length_mapped f xs in omega (arith, rest)
 
 -- as many requests as replies
-as_many : {Q P : Type 0} (peer : ℕ) (exchanges : List (Exchange Q P)) → length (filter_map (with_peer peer) (requests_of exchanges)) ≡ length (filter_map (with_peer peer) (replies_of exchanges))
+pub as_many : {Q P : Type 0} (peer : ℕ) (exchanges : List (Exchange Q P)) → length (filter_map (with_peer peer) (requests_of exchanges)) ≡ length (filter_map (with_peer peer) (replies_of exchanges))
 as_many {Q} {P} peer exchanges =
     sym (ap length (firsts peer exchanges)) ∙ length_mapped (λ (e : Q × P). e.0) (exchanges_with peer exchanges)
     ∙ sym (length_mapped (λ (e : Q × P). e.1) (exchanges_with peer exchanges)) ∙ ap length (seconds peer exchanges)
@@ -81,7 +81,7 @@ pairs_same {A} {B} (x ∷ xs) (y ∷ ys) one two =
     ap (λ e. e ∷ xs) head ∙ ap (λ l. y ∷ l) rest
 
 -- numbers that are raised
-raised : {X : Type 0} (up : ℕ → ℕ) → ((n m : ℕ) → up n ≡ up m → n ≡ m) → (peer : ℕ) (xs : List (ℕ × X)) → filter_map (with_peer (up peer)) (map (λ x. (up x.0, x.1)) xs) ≡ filter_map (with_peer peer) xs
+pub raised : {X : Type 0} (up : ℕ → ℕ) → ((n m : ℕ) → up n ≡ up m → n ≡ m) → (peer : ℕ) (xs : List (ℕ × X)) → filter_map (with_peer (up peer)) (map (λ x. (up x.0, x.1)) xs) ≡ filter_map (with_peer peer) xs
 raised {X} up apart_up peer xs = picked_mapped (λ (x : ℕ × X). (up x.0, x.1)) (with_peer (up peer)) xs ∙ picked_same (λ (x : ℕ × X). with_peer (up peer) (up x.0, x.1)) (with_peer peer) xs (all_the_same _ (λ x. ap (λ (b : Bool). if b then Some x.1 else None) (same x.0)) xs)
   where
     same : (n : ℕ) → (up n == up peer) ≡ (n == peer)
@@ -357,6 +357,7 @@ module _ {A Q P C W L : Type 0} (rules : Rules Q P C) (l : LinkWords L) (a : Act
           on_its_way = talk.carried.outbox_is;
           all = talk.carried.all;
           nothing_left = λ e. subst (λ t. IfSome t (λ (one : LinkContents). one.left ≡ [])) is (talk.carried.nothing_left e);
+          over = λ e. talk.kept.over (talk.kept.done e);
         }
 
     is_answered : IsAnswered rules l (client_at client low).0 (client_at client low).2.talk.lines

@@ -55,6 +55,8 @@ module _ {Q P : Type 0} (lines : List (Line Q P)) (under_way : Option (Request Q
     strays = λ e. kept.strays (same.strays e);
     goes_on = λ e. kept.goes_on (sym same.is_last ∙ e);
     idle = λ e. kept.idle (sym same.is_last ∙ e);
+    over = λ e. kept.over (sym same.is_last ∙ e);
+    done = λ e. same.is_last ∙ kept.done (same.done e);
     fresh = λ e. not_both before.has_come come (sym same.has_come ∙ e);
     empty = λ e _. not_both before.has_come come (sym same.has_come ∙ e);
   }
@@ -149,9 +151,9 @@ module _ {Q P C : Type 0} (rules : Rules Q P C) where
       answered_of under_way none (inr (inr left)) = subst (λ e. IsAnswered e under_way) (sym left) none
 
   -- an end, by what the connection had before
-  end_by : (client : ClientView) (end : End) (old : Option End) → client.end ≡ old → ((asks : List (ℕ × Q)) (replies : List (ℕ × P)) (talk : IsTalk rules asks replies client) → client.end ≡ None → IsAll rules (Some end) talk.rest talk.unwritten × IsAnswered (Some end) talk.under_way) → (Some end ≡ Some ends.Astray → ⊥) → (Some end ≡ Some ends.Left → ⊥)
+  end_by : (client : ClientView) (end : End) (old : Option End) → client.end ≡ old → ((asks : List (ℕ × Q)) (replies : List (ℕ × P)) (talk : IsTalk rules asks replies client) → client.end ≡ None → IsAll rules (Some end) talk.rest talk.unwritten × IsAnswered (Some end) talk.under_way) → (Some end ≡ Some ends.Astray → ⊥) → (Some end ≡ Some ends.Left → ⊥) → (Some end ≡ Some ends.Done → client.is_last ≡ true)
       → (asks : List (ℕ × Q)) (replies : List (ℕ × P)) → IsTalk rules asks replies client → IsTalk rules asks replies (record client { end = ended_by end old })
-  end_by client end None is well apart stays asks replies talk =
+  end_by client end None is well apart stays last asks replies talk =
       let so = well asks replies talk is in
       record {
         lines = talk.lines;
@@ -167,6 +169,8 @@ module _ {Q P C : Type 0} (rules : Rules Q P C) where
           strays = λ e. absurd (apart e);
           goes_on = talk.kept.goes_on;
           idle = talk.kept.idle;
+          over = talk.kept.over;
+          done = last;
           fresh = talk.kept.fresh;
           empty = λ _ e. absurd (let never : ⊥ = cc e in never);
         };
@@ -180,15 +184,15 @@ module _ {Q P C : Type 0} (rules : Rules Q P C) where
           answered = so.1;
         };
       }
-  end_by client end (Some old) is well apart stays asks replies talk = subst (λ (e : Option End). IsTalk rules asks replies (record client { end = e })) is talk
+  end_by client end (Some old) is well apart stays last asks replies talk = subst (λ (e : Option End). IsTalk rules asks replies (record client { end = e })) is talk
 
   -- a connection that fails
   pub failure_keeps : (client : ClientView) (end : End) → IsFailure (Some end) → Keeps rules [] client (after_leaving end client)
-  failure_keeps client end fails = keeps_same rules client (after_leaving end client) (end_by client end client.end refl (λ asks replies talk goes. (failure_all rules (Some end) talk.rest talk.unwritten fails, failure_answered (Some end) talk.under_way fails)) (λ e. subst IsFailure e fails) (λ e. subst IsFailure e fails))
+  failure_keeps client end fails = keeps_same rules client (after_leaving end client) (end_by client end client.end refl (λ asks replies talk goes. (failure_all rules (Some end) talk.rest talk.unwritten fails, failure_answered (Some end) talk.under_way fails)) (λ e. subst IsFailure e fails) (λ e. subst IsFailure e fails) (λ e. absurd (subst IsFailure e fails)))
 
   -- one that has written all that it had to
   pub done_keeps : (client : ClientView) → client.is_last ≡ true → (client.end ≡ None → client.outbox ≡ []) → Keeps rules [] client (after_leaving ends.Done client)
-  done_keeps client last nothing = keeps_same rules client (after_leaving ends.Done client) (end_by client ends.Done client.end refl (λ asks replies talk goes. (talk.carried.outbox_is goes ∙ nothing goes, talk.kept.idle last)) (λ e. cc e) (λ e. cc e))
+  done_keeps client last nothing = keeps_same rules client (after_leaving ends.Done client) (end_by client ends.Done client.end refl (λ asks replies talk goes. (talk.carried.outbox_is goes ∙ nothing goes, talk.kept.idle last)) (λ e. cc e) (λ e. cc e) (λ e. last))
 
   pub finishes_keep : (before after : ClientView) → before.has_come ≡ true → before.end ≡ None → Finishes before after → Keeps rules [] before after
   finishes_keep before after come goes finishes = keeps_same rules before after (λ asks replies talk.
@@ -220,6 +224,8 @@ module _ {Q P C : Type 0} (rules : Rules Q P C) where
           strays = talk.kept.strays;
           goes_on = talk.kept.goes_on;
           idle = talk.kept.idle;
+          over = talk.kept.over;
+          done = talk.kept.done;
           fresh = λ e. absurd (let never : ⊥ = cc e in never);
           empty = λ e _. absurd (let never : ⊥ = cc e in never);
         };

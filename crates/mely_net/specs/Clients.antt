@@ -67,6 +67,7 @@ pub record IsSame (before after : ClientView) : Type 0 where
   pub is_last : after.is_last ≡ before.is_last
   pub goes_on : after.end ≡ None → before.end ≡ None
   pub strays : after.end ≡ Some ends.Astray → before.end ≡ Some ends.Astray
+  pub done : after.end ≡ Some ends.Done → before.end ≡ Some ends.Done
 
 -- an end of a connection that failed
 abbrev pub IsFailure : Option End → Type 0

@@ -7,3 +7,4 @@ pub mod Clients
 pub mod Messages
 pub mod Parts
 pub mod Served
+pub mod Bounds

@@ -1,5 +1,5 @@
 -- What a connection was asked and what it answered, line by line.
-use Rattle.std.specs.Prelude.{◌≡◌, ◌<◌, ℕ, List, [], ◌∷◌, ◌++◌, Option, Some, None, ⊤, IfSome, map, filter_map, flat_map}
+use Rattle.std.specs.Prelude.{◌≡◌, ◌≢◌, ◌<◌, ◌⊎◌, ℕ, List, [], ◌∷◌, ◌++◌, Option, Some, None, ⊤, IfSome, map, filter_map, flat_map}
 use Rattle.sws_link.specs.Links.{LinkContents}
 use Rattle.mely_net.specs.declared.asked.Asked.{Asked}
 use Rattle.mely_net.specs.declared.asked.Asked.TheVariants.{At, Here, Last}
@@ -50,6 +50,15 @@ abbrev pub EndAtLast : {Q P : Type 0} → List (Line Q P) → Type 0
 EndAtLast [] = ⊤
 EndAtLast (line ∷ lines) = (IsLast line.asked → lines ≡ []) × EndAtLast lines
 
+-- some line is the last
+abbrev pub HasLast : {Q P : Type 0} → List (Line Q P) → Type 0
+HasLast [] = ⊥
+HasLast (line ∷ lines) = IsLast line.asked ⊎ HasLast lines
+
+-- the connection was to end: with a line that is the last, or with the answer to a fault
+abbrev pub IsOver : {Q P : Type 0} → List (Line Q P) → Option P → Type 0
+IsOver lines refused = HasLast lines ⊎ (refused ≢ None)
+
 module _ {Q P C : Type 0} (rules : Rules Q P C) where
   pub record IsLine (line : Line Q P) : Type 0 where
     pub asks : rules.Asks line.frame line.asked
@@ -84,7 +93,8 @@ module _ {Q P C : Type 0} (rules : Rules Q P C) where
   -- what isn't yet are the bytes of their replies, in order, and of the answer to a fault, which
   -- may only come last. What is on its way is in the outbox, as long as the connection hasn't
   -- ended; and nothing is unwritten where it has ended well. Where its client has sent all that it
-  -- sends, all of that was taken, and no frame of it is left.
+  -- sends, all of that was taken, and no frame of it is left; and where the connection has ended
+  -- before that, though nothing failed, its last line or the answer to a fault wanted it.
   pub record IsFramed (told : LinkContents) (lines : List (Line Q P)) (outbox : List ℕ)
       (end : Option End) : Type 0 where
     pub rest : List ℕ
@@ -96,3 +106,4 @@ module _ {Q P C : Type 0} (rules : Rules Q P C) where
     pub on_its_way : end ≡ None → unwritten ≡ outbox
     pub all : IsAll end rest unwritten
     pub nothing_left : end ≡ Some ends.Left → told.left ≡ []
+    pub over : end ≡ Some ends.Done → IsOver lines refused

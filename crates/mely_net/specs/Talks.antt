@@ -7,7 +7,7 @@ use Rattle.mely_net.specs.declared.end.End.{End}
 use Rattle.mely_net.specs.declared.end.End.TheVariants as ends
 use Rattle.mely_net.specs.Cutting.{AreFrames}
 use Rattle.mely_net.specs.Exchanges.{Exchange}
-use Rattle.mely_net.specs.Lines.{EndAtLast, IsAll, IsLast, IsLine, IsRefused, Line, exchanges_in, shown_of, shown_to_fault}
+use Rattle.mely_net.specs.Lines.{EndAtLast, IsAll, IsLast, IsLine, IsOver, IsRefused, Line, exchanges_in, shown_of, shown_to_fault}
 use Rattle.mely_net.specs.Rules.{Rules}
 
 -- what a connection has: whether its link has come, and what that tells; what came and isn't cut,
@@ -87,8 +87,8 @@ pub record IsEmpty (client : ClientView) : Type 0 where
   pub no_outbox : client.outbox ≡ []
 
 -- What a connection knows of its lines: the cell that was asked; that no reply went astray as long
--- as it hasn't ended; that it cuts no further frame once it is to end, and then waits for no cell;
--- and that there is nothing before its link has come.
+-- as it hasn't ended; that it cuts no further frame once it is to end, then waits for no cell, and
+-- is to end for a line or a fault; and that there is nothing before its link has come.
 pub record IsKept {Q P : Type 0} (lines : List (Line Q P)) (under_way : Option (Request Q))
     (refused : Option P) (astray : List (ℕ × P)) (client : ClientView) : Type 0 where
   pub known : IsKnown astray under_way client.asked
@@ -96,6 +96,8 @@ pub record IsKept {Q P : Type 0} (lines : List (Line Q P)) (under_way : Option (
   pub strays : client.end ≡ Some ends.Astray → astray ≢ []
   pub goes_on : client.is_last ≡ false → GoesOn lines refused
   pub idle : client.is_last ≡ true → under_way ≡ None
+  pub over : client.is_last ≡ true → IsOver lines refused
+  pub done : client.end ≡ Some ends.Done → client.is_last ≡ true
   pub fresh : client.has_come ≡ false → IsFresh lines under_way refused
   pub empty : client.has_come ≡ false → client.end ≡ None → IsEmpty client
 

@@ -39,8 +39,9 @@
 //! - *Framed.* Over a link that tells what was taken and written, what was taken of a connection
 //!   begins with the frames of its lines, as the service cuts them; each line has what its frame
 //!   asks, and its reply; and what was written, and what isn't yet, are the bytes of these replies
-//!   in order. Where the connection has ended well, nothing is left unwritten; where its client has
-//!   sent all that it sends, all of that was taken, and no frame of it is left.
+//!   in order. Where the connection has ended well, nothing is left unwritten. Then either its
+//!   client has sent all that it sends, all of that was taken, and no frame of it is left; or the
+//!   connection was to end, by an answer of [`Asked::Last`] or the one to a fault.
 //! - *Sequential.* Each cell has one list of exchanges, a request with its reply, along which it
 //!   went step by step from what it began with to the value that is handed out: a sequential
 //!   history, as in linearizability (M. Herlihy and J. Wing, *Linearizability: A Correctness
@@ -50,6 +51,11 @@
 //!   each request has one place in the history of its cell, those of one connection stand there in
 //!   the order in which they were sent, and what a connection is told is the reply of that place.
 //!   No request is left under way, and no reply goes astray.
+//!
+//! So a cell's queue is bounded by the connections: of each, one request at most waits for the cell
+//! at any moment at which both are as their handlers leave them, and the connection was replied no
+//! more than the cell has sent. This is the law [`one_request_of_a_connection_waits`]; `serve` itself
+//! says nothing of moments.
 //!
 //! **Not promised**, since nothing tells it: what a socket brings or carries away; in which order
 //! the requests of different connections come to a cell; anything of the order of exchanges with
@@ -64,6 +70,7 @@ mod client;
 mod cut;
 mod desk;
 mod end;
+mod laws;
 mod layout;
 mod message;
 mod part;
@@ -77,7 +84,7 @@ pub use client::Client;
 pub use cut::Cut;
 pub use desk::Desk;
 pub use end::End;
-pub use message::{Held, Message};
+pub use laws::one_request_of_a_connection_waits;
 pub use part::Part;
 pub use running::{MOST_WORKERS, serve};
 pub use service::Service;

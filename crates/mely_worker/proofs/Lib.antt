@@ -1,3 +1,4 @@
 mod StepLemmas
 pub mod ViewsLemmas
 mod RuleLemmas
+pub mod GateLemmas

@@ -10,4 +10,5 @@ pub mod IdleWorker
 pub mod IdleInvariant
 pub mod Step
 pub mod Conditions
+pub mod Gated
 pub mod Rule

@@ -2,7 +2,9 @@
 ghost use Rattle.std.specs.Prelude.{◌≡◌, false};
 ghost use Rattle.mely_worker.specs.declared.phase.Phase.TheVariants.{Free, Popped, Picked};
 ghost use Rattle.mely_worker.specs.Phase.{is_turning};
+ghost use Rattle.mely_worker.specs.Gated.{HasPassed};
 ghost use Rattle.mely_worker.specs.Rule.{StepsOn, StepDone};
+ghost use Rattle.mely_worker.specs.WorkerFields.{worker_of};
 
 use crate::access::Access;
 use crate::app::App;
@@ -168,6 +170,7 @@ pub(crate) fn step_by_phase<
     ensures done { StepDone S.Trail S.fits_under A.Access R.App app.now access.old
         fields.old phase.old
         result access.new fields.new phase.new }
+    ensures passed { HasPassed (G.passes gate.now) (worker_of fields.old phase.old) }
 {
     if let Some(turn) = &mut phase.turn {
         return if has_run_all(turn, &phase.hand, &phase.outs) {

@@ -3,7 +3,9 @@ ghost use Rattle.std.specs.Prelude.{◌≡◌, [], ◌↔◌, IsTrue};
 ghost use Rattle.mely_worker.specs.declared.phase.Phase.TheVariants.{Turning};
 ghost use Rattle.mely_worker.specs.declared.delivery.Delivery.TheVariants.{Nothing};
 ghost use Rattle.mely_worker.specs.Phase.{HasRunAll};
+ghost use Rattle.mely_worker.specs.Gated.{HasPassed};
 ghost use Rattle.mely_worker.specs.Rule.{StepsOn, StepDone};
+ghost use Rattle.mely_worker.specs.WorkerFields.{worker_of};
 
 use crate::access::Access;
 use crate::app::App;
@@ -47,6 +49,8 @@ pub(crate) fn step_turn<
     ensures done { StepDone S.Trail S.fits_under A.Access R.App app.now access.old
         fields.old (Turning turn.old hand.old outs.old)
         result access.new fields.new (Turning turn.new hand.new outs.new) }
+    ensures passed { HasPassed (G.passes gate.now)
+        (worker_of fields.old (Turning turn.old hand.old outs.old)) }
 {
     match *hand {
         Delivery::Nothing => {
@@ -130,6 +134,8 @@ fn run_next<S: Fits<P> + Drop, P: Drop, A: Access<S, P>, R: App<State = S, Load 
     ensures done { StepDone S.Trail S.fits_under A.Access R.App app.now access.old
         fields.old (Turning turn.old Nothing outs.old)
         result access.new fields.new (Turning turn.new Nothing outs.new) }
+    ensures passed { HasPassed (G.passes gate.now)
+        (worker_of fields.old (Turning turn.old Nothing outs.old)) }
 {
     let Some((event, load)) = turn.next() else {
         unreachable!()

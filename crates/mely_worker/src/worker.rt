@@ -127,6 +127,7 @@ impl<S, P: Drop> Worker<S, P> {
 
 impl<S: Fits<P> + Drop, P: Drop> Worker<S, P> {
     ghost use Rattle.std.specs.Prelude.{true};
+    ghost use Rattle.mely_worker.specs.Gated.{HasPassed};
     ghost use Rattle.mely_worker.specs.Step.{Steps};
     ghost use Rattle.mely_worker.specs.Worker.{IsSameWorker};
     ghost use Rattle.mely_worker.specs.Conditions.{MayStepAt, AppServesAt};
@@ -135,6 +136,8 @@ impl<S: Fits<P> + Drop, P: Drop> Worker<S, P> {
     /// Makes one step by the worker's rule, and names it.
     ///
     /// What the worker needs for its steps holds again afterwards, so steps may follow one another.
+    /// Where the step runs a handler, the gate was passed before, with the core, the colour and the
+    /// event.
     pub fn step<A: Access<S, P>, R: App<State = S, Load = P>, G: Gate>(
         &mut self,
         access: &mut A,
@@ -145,6 +148,7 @@ impl<S: Fits<P> + Drop, P: Drop> Worker<S, P> {
         requires served { AppServesAt A.Access R.App access.old app.now }
         ensures steps { Steps A.Access R.App app.now access.old self.old
             result access.new self.new }
+        ensures passed { HasPassed (G.passes gate.now) self.old }
         ensures may { MayStepAt S.Trail S.fits_under A.Access access.new self.new }
         ensures worker { IsSameWorker self.old self.new }
         ensures halted { self.old.halted ≡ true → self.new.halted ≡ true }

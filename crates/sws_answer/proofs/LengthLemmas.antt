@@ -1,66 +1,109 @@
 -- How long an answer is at most.
-use Rattle.std.specs.Prelude.{◌≡◌, ℕ, ◌+◌, ◌≤◌, Bool, true, false, if◌then◌else◌, List, [], ◌++◌, length, Option, Some, None, ⊤}
+use Rattle.std.specs.Prelude.{◌≡◌, ℕ, ◌+◌, ◌≤◌, Bool, true, false, if◌then◌else◌, List, [], ◌++◌, length, Option, Some, None, option_and_then, ⊤}
+use Rattle.std.specs.Option.{option_or}
 use Rattle.std.proofs.Common.{refl, sym, arith, length-append, lit≤}
 use Rattle.sws_request.specs.Request.{Request}
 use Rattle.sws_site.specs.declared.statuses.Status.{Status}
-use Rattle.sws_site.specs.declared.statuses.Status.TheVariants.{Success, PartialContent, NotModified, BadRequest, NotFound, MethodNotAllowed, RangeNotSatisfiable, HeaderFieldsTooLarge, NotImplemented}
-use Rattle.sws_site.specs.ResponseHeads.{ResponseHead, head_text}
-use Rattle.sws_site.specs.Fixed.{fixed_body}
+use Rattle.sws_site.specs.declared.statuses.Status.TheVariants.{Success, PartialContent, MovedPermanently, NotModified, BadRequest, NotFound, MethodNotAllowed, RangeNotSatisfiable, HeaderFieldsTooLarge, NotImplemented}
+use Rattle.sws_site.specs.declared.options.SiteOptions.{SiteOptions}
+use Rattle.sws_site.specs.Statuses.{row_of}
+use Rattle.sws_site.specs.ResponseHeads.{ResponseHead, head_text, lines_text, location_lines}
+use Rattle.sws_site.specs.Fixed.{fixed_body, told_type, told_body, not_found_name, not_found_page}
+use Rattle.sws_site.specs.Folders.{folder_path, folder_index, redirects_to, index_tail}
+use Rattle.sws_site.proofs.FolderLemmas.{folder_path-short}
 use Rattle.sws_site.specs.Files.{File, file_named}
-use Rattle.sws_site.specs.Limits.{IsWithinLimits, size_limit}
+use Rattle.sws_site.specs.Limits.{IsWithinLimits, size_limit, name_limit}
 use Rattle.sws_site.specs.Site.{SiteState}
 use Rattle.sws_site.proofs.HeadLengthsLemmas.{media_type_of-short, IsShortRange, head_text-short}
-use Rattle.sws_site.proofs.FileLemmas.{file_named-short}
+use Rattle.sws_site.proofs.FileLemmas.{file_named-short, file_named-name-short}
 use Rattle.sws_answer.specs.Asked.{Asked, request, not_request, too_long}
 use Rattle.sws_answer.specs.declared.ranges.Selection.{Selection}
 use Rattle.sws_answer.specs.declared.ranges.Selection.TheVariants.{Whole, Part, Unsatisfied}
 use Rattle.sws_answer.specs.Ranges.{IsWithin, selection_for}
 use Rattle.sws_answer.specs.Targets.{name_of}
-use Rattle.sws_answer.specs.Cases.{file_for}
-use Rattle.sws_answer.specs.Answers.{text_of, text_limit, Content, content_of, range_of, response, request_answer, answer_of}
+use Rattle.sws_answer.specs.Cases.{file_for, folder_for, subject_for}
+use Rattle.sws_answer.specs.Answers.{text_of, text_limit, Content, content_of, location_of, range_of, response, request_answer, answer_of}
 use Rattle.sws_answer.proofs.RangeLemmas.{selection_for-within, length-part-le}
 
 -- ---- files
 
--- the file is no longer than all contents of a site may be
+-- neither its contents nor its name is longer than those of a site may be
 IsShort : Option File → Type 0
 IsShort None = ⊤
-IsShort (Some file) = length file.1 ≤ size_limit
+IsShort (Some file) = (length file.1 ≤ size_limit) × (length file.0 ≤ name_limit)
 
-file_for-short : (site : SiteState) (asked : Request) → IsWithinLimits site.files → IsShort (file_for site asked)
+named-short : (files : List File) (name : List ℕ) → IsWithinLimits files → IsShort (file_named name files)
 unfolding IsShort
-file_for-short site asked within = by_name (name_of site.options asked.target)
+named-short files name within = by_file (file_named name files) refl
   where
-    by_file : (name : List ℕ) (found : Option File) → found ≡ file_named name site.files → IsShort found
-    by_file name None e = tt
-    by_file name (Some file) e = let short = file_named-short site.files name file (sym e) in let few = within.bytes in omega arith
+    by_file : (found : Option File) → found ≡ file_named name files → IsShort found
+    by_file None e = tt
+    by_file (Some file) e =
+        ((let short = file_named-short files name file (sym e) in let few = within.bytes in omega arith), file_named-name-short files name file within (sym e))
 
-    by_name : (name : Option (List ℕ)) → IsShort (elim name as (λ _. Option File) [ None ↦ None | Some n ↦ file_named n site.files ])
-    by_name None = tt
-    by_name (Some name) = by_file name (file_named name site.files) refl
+if-short : (t : Bool) (file : Option File) → IsShort file → IsShort (if t then file else None)
+unfolding IsShort
+if-short true file short = short
+if-short false file short = tt
+
+or-short : (file other : Option File) → IsShort file → IsShort other → IsShort (option_or file other)
+unfolding IsShort
+or-short None other short also = also
+or-short (Some file) other short also = short
+
+then-short : (name : Option (List ℕ)) (find_by : List ℕ → Option File) → ((n : List ℕ) → IsShort (find_by n)) → IsShort (option_and_then find_by name)
+unfolding IsShort
+then-short None find_by each = tt
+then-short (Some n) find_by each = each n
+
+subject-short : (site : SiteState) (asked : Request) → IsWithinLimits site.files → IsShort (subject_for site asked)
+subject-short site asked within =
+    or-short (file_for site asked) (folder_for site asked)
+    (then-short (name_of site.options asked.target) (λ name. file_named name site.files) (λ name. named-short site.files name within))
+    (then-short (name_of site.options asked.target) (folder_index site) (λ name. if-short (redirects_to site.options (name ++ index_tail)) (file_named (name ++ index_tail) site.files) (named-short site.files (name ++ index_tail) within)))
 
 -- ---- answers
 
 -- the content of a response
 record HasShortContent (content : Content) : Type 0 where
-  media_type : length content.media_type ≤ 32
+  media_type : length content.media_type ≤ 80
   bytes : length content.bytes ≤ size_limit
 
-content_of-short : (site : SiteState) (status : Status) (file : Option File) (selection : Selection) → IsShort file → HasShortContent (content_of site status file selection)
+told-short : (options : SiteOptions) (page : Option File) → IsShort page → HasShortContent (record { media_type = told_type options page; bytes = told_body page NotFound })
 unfolding IsShort fixed_body
-content_of-short site Success None selection short = record { media_type = lit≤ tt; bytes = lit≤ tt }
-content_of-short site Success (Some file) selection short = record { media_type = media_type_of-short site.options file.0; bytes = short }
-content_of-short site PartialContent None selection short = record { media_type = lit≤ tt; bytes = lit≤ tt }
-content_of-short site PartialContent (Some file) Whole short = record { media_type = media_type_of-short site.options file.0; bytes = short }
-content_of-short site PartialContent (Some file) (Part first last) short = record { media_type = media_type_of-short site.options file.0; bytes = length-part-le file.1 first (last + 1) size_limit short }
-content_of-short site PartialContent (Some file) Unsatisfied short = record { media_type = media_type_of-short site.options file.0; bytes = lit≤ tt }
-content_of-short site NotModified file selection short = record { media_type = lit≤ tt; bytes = lit≤ tt }
-content_of-short site BadRequest file selection short = record { media_type = lit≤ tt; bytes = lit≤ tt }
-content_of-short site NotFound file selection short = record { media_type = lit≤ tt; bytes = lit≤ tt }
-content_of-short site MethodNotAllowed file selection short = record { media_type = lit≤ tt; bytes = lit≤ tt }
-content_of-short site RangeNotSatisfiable file selection short = record { media_type = lit≤ tt; bytes = lit≤ tt }
-content_of-short site HeaderFieldsTooLarge file selection short = record { media_type = lit≤ tt; bytes = lit≤ tt }
-content_of-short site NotImplemented file selection short = record { media_type = lit≤ tt; bytes = lit≤ tt }
+told-short options None short = record { media_type = lit≤ tt; bytes = lit≤ tt }
+told-short options (Some page) short = record { media_type = media_type_of-short options page.0; bytes = short.0 }
+
+content_of-short : (site : SiteState) (status : Status) (file : Option File) (selection : Selection) → IsWithinLimits site.files → IsShort file
+    → HasShortContent (content_of site status file selection)
+unfolding IsShort fixed_body
+content_of-short site Success None selection within short = record { media_type = lit≤ tt; bytes = lit≤ tt }
+content_of-short site Success (Some file) selection within short = record { media_type = media_type_of-short site.options file.0; bytes = short.0 }
+content_of-short site PartialContent None selection within short = record { media_type = lit≤ tt; bytes = lit≤ tt }
+content_of-short site PartialContent (Some file) Whole within short = record { media_type = media_type_of-short site.options file.0; bytes = short.0 }
+content_of-short site PartialContent (Some file) (Part first last) within short =
+    record { media_type = media_type_of-short site.options file.0; bytes = length-part-le file.1 first (last + 1) size_limit short.0 }
+content_of-short site PartialContent (Some file) Unsatisfied within short = record { media_type = media_type_of-short site.options file.0; bytes = lit≤ tt }
+content_of-short site MovedPermanently file selection within short = record { media_type = lit≤ tt; bytes = lit≤ tt }
+content_of-short site NotModified file selection within short = record { media_type = lit≤ tt; bytes = lit≤ tt }
+content_of-short site BadRequest file selection within short = record { media_type = lit≤ tt; bytes = lit≤ tt }
+content_of-short site NotFound file selection within short =
+    told-short site.options (not_found_page site.options site.files)
+    (if-short site.options.sends_not_found_page (file_named not_found_name site.files) (named-short site.files not_found_name within))
+content_of-short site MethodNotAllowed file selection within short = record { media_type = lit≤ tt; bytes = lit≤ tt }
+content_of-short site RangeNotSatisfiable file selection within short = record { media_type = lit≤ tt; bytes = lit≤ tt }
+content_of-short site HeaderFieldsTooLarge file selection within short = record { media_type = lit≤ tt; bytes = lit≤ tt }
+content_of-short site NotImplemented file selection within short = record { media_type = lit≤ tt; bytes = lit≤ tt }
+
+-- the line of the location
+path_line-short : (path : List ℕ) → length path ≤ 3073 → length (lines_text (location_lines (Some path))) ≤ 4096
+path_line-short path short = simp length-append (omega (arith, short))
+
+location-short : (has_location : Bool) (file : Option File) → IsShort file → length (lines_text (location_lines (location_of has_location file))) ≤ 4096
+unfolding IsShort
+location-short false file short = lit≤ tt
+location-short true None short = lit≤ tt
+location-short true (Some file) short = path_line-short (folder_path file.0) (let few = short.1 in omega (arith, folder_path-short file.0, few))
 
 -- the selection lies within the file, where there is one
 abbrev FitsFile : Option File → Selection → Type 0
@@ -72,26 +115,29 @@ unfolding IsShort
 range_of-short None selection short fits = tt
 range_of-short (Some file) Whole short fits = tt
 range_of-short (Some file) (Part first last) short fits =
-    ((let a = fits.0 in let b = fits.1 in omega (arith, short)), (let b = fits.1 in omega (arith, short)), omega (arith, short))
-range_of-short (Some file) Unsatisfied short fits = omega (arith, short)
+    let few = short.0 in ((let a = fits.0 in let b = fits.1 in omega (arith, few)), (let b = fits.1 in omega (arith, few)), omega (arith, few))
+range_of-short (Some file) Unsatisfied short fits = let few = short.0 in omega (arith, few)
 
-response-short : (site : SiteState) (status : Status) (file : Option File) (selection : Selection) (closes is_head : Bool) → IsShort file → FitsFile file selection
+response-short : (site : SiteState) (status : Status) (file : Option File) (selection : Selection) (closes is_head : Bool) → IsWithinLimits site.files → IsShort file → FitsFile file selection
     → length (text_of (response site status file selection closes is_head)) ≤ text_limit
 unfolding response
-response-short site status file selection closes is_head short fits =
-    let content = content_of-short site status file selection short in
+response-short site status file selection closes is_head within short fits =
+    let content = content_of-short site status file selection within short in
     let few = content.bytes in
     let head : ResponseHead = record {
       status = status;
+      location = location_of (row_of status).has_location file;
       closes = closes;
       date = site.date;
       range = range_of file selection;
       media_type = (content_of site status file selection).media_type;
       len = length (content_of site status file selection).bytes;
     } in
-    by_head (head_text head) (content_of site status file selection).bytes (head_text-short head content.media_type (omega arith) (range_of-short file selection short fits)) content.bytes is_head
+    by_head (head_text head) (content_of site status file selection).bytes
+    (let head_short = head_text-short head content.media_type (omega arith) (range_of-short file selection short fits) in
+    let line = location-short (row_of status).has_location file short in omega (arith, head_short, line)) content.bytes is_head
   where
-    by_head : (head bytes : List ℕ) → length head ≤ 256 → length bytes ≤ size_limit → (t : Bool) → length (head ++ (if t then [] else bytes)) ≤ text_limit
+    by_head : (head bytes : List ℕ) → length head ≤ 8192 → length bytes ≤ size_limit → (t : Bool) → length (head ++ (if t then [] else bytes)) ≤ text_limit
     by_head head bytes short few true = omega (arith, length-append head [])
     by_head head bytes short few false = omega (arith, length-append head bytes)
 
@@ -102,6 +148,6 @@ selection-fits asked (Some file) = selection_for-within asked file
 -- an answer out of a site within its limits has at most so many bytes
 pub answer_of-short : (site : SiteState) (asked : Asked) (last : Bool) → IsWithinLimits site.files → length (text_of (answer_of site asked last)) ≤ text_limit
 unfolding request_answer IsShort
-answer_of-short site (request asked) last within = response-short _ _ _ _ _ _ (file_for-short site asked within) (selection-fits asked (file_for site asked))
-answer_of-short site not_request last within = response-short _ _ _ _ _ _ tt refl
-answer_of-short site too_long last within = response-short _ _ _ _ _ _ tt refl
+answer_of-short site (request asked) last within = response-short _ _ _ _ _ _ within (subject-short site asked within) (selection-fits asked (subject_for site asked))
+answer_of-short site not_request last within = response-short _ _ _ _ _ _ within tt refl
+answer_of-short site too_long last within = response-short _ _ _ _ _ _ within tt refl

@@ -5,4 +5,5 @@ mod RangeLemmas
 mod FieldLemmas
 mod AnswerLemmas
 mod TargetLemmas
+mod FolderLemmas
 mod DotLemmas

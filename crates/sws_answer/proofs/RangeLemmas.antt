@@ -158,6 +158,7 @@ abbrev pub part_head : Bool → ℕ → ℕ → Option HttpDate → List ℕ →
 part_head closes first last date media_type bytes =
     record {
       status = PartialContent;
+      location = None;
       closes = closes;
       date = date;
       range = Some (Selected first last (length bytes));
@@ -169,15 +170,15 @@ pub part_head-same : (closes : Bool) (first last : ℕ) (date other : Option Htt
     → head_text (part_head closes first last date media_type bytes) ≡ head_text (part_head closes first last other media contents)
 part_head-same closes first last date other media_type media bytes contents d k b = cc
 
-pub part_head-short : (closes : Bool) (first last : ℕ) (date : Option HttpDate) (media_type bytes : List ℕ) → length media_type ≤ 32 → length bytes ≤ size_limit
-    → first ≤ last → last < length bytes → length (head_text (part_head closes first last date media_type bytes)) ≤ 256
+pub part_head-short : (closes : Bool) (first last : ℕ) (date : Option HttpDate) (media_type bytes : List ℕ) → length media_type ≤ 80 → length bytes ≤ size_limit
+    → first ≤ last → last < length bytes → length (head_text (part_head closes first last date media_type bytes)) ≤ 320
 part_head-short closes first last date media_type bytes short few ordered within =
     let part = length-part-le bytes first (last + 1) size_limit few in
     head_text-short (part_head closes first last date media_type bytes) short (omega arith) (omega arith, omega arith, omega arith)
 
 abbrev pub no_part_head : Bool → Option HttpDate → ℕ → ResponseHead
 no_part_head closes date len =
-    record { status = RangeNotSatisfiable; closes = closes; date = date; range = Some (NoSuch len); media_type = plain_text; len = 26 }
+    record { status = RangeNotSatisfiable; location = None; closes = closes; date = date; range = Some (NoSuch len); media_type = plain_text; len = 26 }
 
-pub no_part_head-short : (closes : Bool) (date : Option HttpDate) (len : ℕ) → len ≤ size_limit → length (head_text (no_part_head closes date len)) ≤ 256
+pub no_part_head-short : (closes : Bool) (date : Option HttpDate) (len : ℕ) → len ≤ size_limit → length (head_text (no_part_head closes date len)) ≤ 320
 no_part_head-short closes date len few = head_text-short (no_part_head closes date len) (lit≤ tt) (lit< tt) (omega arith)

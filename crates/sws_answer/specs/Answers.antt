@@ -1,5 +1,5 @@
 -- The answer to one head (RFC 9110, RFC 9112; RFC 6585, section 5).
-use Rattle.std.specs.Prelude.{ℕ, ◌+◌, Bool, true, false, ◌||◌, if◌then◌else◌, List, [], ◌++◌, length, slice_range, codes, Option, Some, None}
+use Rattle.std.specs.Prelude.{ℕ, ◌+◌, Bool, true, false, ◌||◌, if◌then◌else◌, List, [], ◌++◌, length, slice_range, codes, Option, Some, None, option_map}
 use Rattle.std.specs.Str.{bytes_eq}
 use Rattle.sws_request.specs.Request.{Request}
 use Rattle.sws_site.specs.declared.statuses.Status.{Status}
@@ -11,11 +11,12 @@ use Rattle.sws_site.specs.declared.heads.ContentRange.TheVariants.{Selected, NoS
 use Rattle.sws_site.specs.Statuses.{row_of, code_of}
 use Rattle.sws_site.specs.ContentTypes.{media_type_of}
 use Rattle.sws_site.specs.ResponseHeads.{head_text}
-use Rattle.sws_site.specs.Fixed.{fixed_body, plain_text}
+use Rattle.sws_site.specs.Fixed.{status_page, told_type, told_body}
+use Rattle.sws_site.specs.Folders.{folder_path}
 use Rattle.sws_site.specs.Files.{File}
 use Rattle.sws_site.specs.Site.{SiteState}
 use Rattle.sws_answer.specs.Asked.{Asked, request, not_request, too_long}
-use Rattle.sws_answer.specs.Cases.{request_status, file_for}
+use Rattle.sws_answer.specs.Cases.{request_status, subject_for}
 use Rattle.sws_answer.specs.Closing.{is_closing}
 use Rattle.sws_answer.specs.declared.ranges.Selection.{Selection}
 use Rattle.sws_answer.specs.declared.ranges.Selection.TheVariants.{Whole, Part, Unsatisfied}
@@ -65,16 +66,19 @@ part_content site (Some file) selection = record {
   bytes = selected_bytes selection file.1;
 }
 
--- the line of text that tells a status
-abbrev pub status_content : Status → Content
-status_content status = record { media_type = plain_text; bytes = fixed_body status }
+-- what tells a status in the site: a line of text, or the page for names that no file has
+abbrev pub status_content : SiteState → Status → Content
+status_content site status = record {
+  media_type = told_type site.options (status_page site status);
+  bytes = told_body (status_page site status) status;
+}
 
 -- the content by what that of the status is
 abbrev pub content_by : Body → SiteState → Status → Option File → Selection → Content
 content_by Nothing site status file selection = no_content
 content_by WholeFile site status file selection = file_content site file
 content_by PartOfFile site status file selection = part_content site file selection
-content_by StatusText site status file selection = status_content status
+content_by StatusText site status file selection = status_content site status
 
 -- the content of the response with this status
 abbrev pub content_of : SiteState → Status → Option File → Selection → Content
@@ -91,6 +95,11 @@ abbrev pub range_of : Option File → Selection → Option ContentRange
 range_of None selection = None
 range_of (Some file) selection = selected_range selection (length file.1)
 
+-- where a head of such a status says that what is asked for is: the path of the folder of the index
+abbrev pub location_of : Bool → Option File → Option (List ℕ)
+location_of has_location index =
+    if has_location then option_map (λ file. folder_path file.0) index else None
+
 -- for HEAD the content is left out, and all lines stay (RFC 9110, section 9.3.2); the target isn't
 -- known here
 unfoldable pub response : SiteState → Status → Option File → Selection → Bool → Bool → Answer
@@ -101,6 +110,7 @@ response site status file selection closes is_head =
       closes = closes;
       head = head_text (record {
         status = status;
+        location = location_of (row_of status).has_location file;
         closes = closes;
         date = site.date;
         range = range_of file selection;
@@ -121,7 +131,7 @@ is_head_request asked = bytes_eq asked.method (codes "HEAD")
 unfoldable pub request_answer : SiteState → Request → Bool → Answer
 request_answer site asked last =
     let status = request_status site asked in
-    let file = file_for site asked in
+    let file = subject_for site asked in
     let closes = (row_of status).closes || is_closing asked || last in
     response site status file (selection_for asked file) closes (is_head_request asked)
 

@@ -2,11 +2,13 @@
 -- and 15; RFC 9112, section 3).
 use Rattle.std.specs.Prelude.{ℕ, Bool, not, ◌==◌, ◌&&◌, ◌||◌, if◌then◌else◌, nat_lt, List, [], ◌∷◌, length, codes, Option, option_and_then, is_none}
 use Rattle.std.specs.List.{list_any}
+use Rattle.std.specs.Option.{option_or}
 use Rattle.std.specs.Str.{bytes_eq}
 use Rattle.sws_request.specs.Request.{Request}
 use Rattle.sws_site.specs.declared.statuses.Status.{Status}
-use Rattle.sws_site.specs.declared.statuses.Status.TheVariants.{Success, PartialContent, NotModified, BadRequest, NotFound, MethodNotAllowed, RangeNotSatisfiable, NotImplemented}
+use Rattle.sws_site.specs.declared.statuses.Status.TheVariants.{Success, PartialContent, MovedPermanently, NotModified, BadRequest, NotFound, MethodNotAllowed, RangeNotSatisfiable, NotImplemented}
 use Rattle.sws_site.specs.Files.{File, file_named}
+use Rattle.sws_site.specs.Folders.{folder_index}
 use Rattle.sws_site.specs.Site.{SiteState}
 use Rattle.sws_answer.specs.Fields.{values_of}
 use Rattle.sws_answer.specs.Targets.{path_and_query, name_of}
@@ -37,6 +39,15 @@ other_methods =
 abbrev pub file_for : SiteState → Request → Option File
 file_for site asked = option_and_then (λ name. file_named name site.files) (name_of site.options asked.target)
 
+-- the index of the folder that the request names without its last slash, where the site redirects to
+-- that folder
+abbrev pub folder_for : SiteState → Request → Option File
+folder_for site asked = option_and_then (folder_index site) (name_of site.options asked.target)
+
+-- the file that the answer is about: the one that the request names, or else the index of a folder
+abbrev pub subject_for : SiteState → Request → Option File
+subject_for site asked = option_or (file_for site asked) (folder_for site asked)
+
 -- the status of the first case that holds
 abbrev pub first_case : List (Bool × Status) → Status → Status
 first_case [] otherwise = otherwise
@@ -49,7 +60,8 @@ request_cases site asked =
     ∷ (is_one_of other_methods asked.method, MethodNotAllowed)
     ∷ (not (is_one_of file_methods asked.method), NotImplemented)
     ∷ (is_none (path_and_query asked.target), BadRequest)
-    ∷ (is_none (file_for site asked), NotFound)
+    ∷ (is_none (subject_for site asked), NotFound)
+    ∷ (is_none (file_for site asked), MovedPermanently)
     ∷ (is_unmodified site.date asked.fields, NotModified)
     ∷ (is_unsatisfied (selection_for asked (file_for site asked)), RangeNotSatisfiable)
     ∷ (is_part (selection_for asked (file_for site asked)), PartialContent)

@@ -1,9 +1,11 @@
 //! The answer to one head.
-ghost use Rattle.std.specs.Prelude.{◌≡◌, ◌≤◌, ◌<◌, ◌∷◌, IsTrue, Bool, true, false, not, ◌||◌, length, [], codes, if◌then◌else◌, None, Some};
+ghost use Rattle.std.specs.Prelude.{◌≡◌, ◌≤◌, ◌<◌, ◌∷◌, IsTrue, Bool, true, false, not, ◌||◌, length, [], codes, if◌then◌else◌, Option, None, Some, option_map};
 ghost use Rattle.sws_site.specs.declared.statuses.Status.{Status as StatusValue};
 ghost use Rattle.sws_answer.specs.Cases.{lacks_host, is_one_of, file_methods, other_methods};
 ghost use Rattle.sws_answer.specs.Answers.{is_head_request, response, request_answer, answer_of};
-ghost use Rattle.sws_answer.specs.FileAnswers.{file_answer, name_answer};
+ghost use Rattle.sws_site.specs.Files.{File};
+ghost use Rattle.sws_site.specs.Folders.{folder_index};
+ghost use Rattle.sws_answer.specs.FileAnswers.{file_answer, folder_answer, name_answer, redirect_parts as parts_to};
 ghost use Rattle.sws_answer.specs.declared.ranges.Selection.{Selection as SelectionValue};
 ghost use Rattle.sws_answer.specs.declared.ranges.Selection.TheVariants.{Whole, Part, Unsatisfied};
 ghost use Rattle.sws_site.specs.Fixed.{is_fixed};
@@ -197,7 +199,8 @@ fn answer_file<'s>(
     is_head: bool,
 ) -> Answer<'s>
     requires { IsPageOf site.now page.now }
-    ensures { Sends result (file_answer site.now request.now (Some page.now.file) closes is_head) }
+    ensures { (index : Option File) → Sends result
+        (file_answer site.now request.now (Some page.now.file) index closes is_head) }
 {
     if is_not_modified(site.http_date(), request) {
         return say_not_modified(site, page, closes, is_head);
@@ -206,6 +209,45 @@ fn answer_file<'s>(
         Selection::Whole => send_file(site, page, closes, is_head),
         Selection::Part(first, last) => send_part(site, page, first, last, closes, is_head),
         Selection::Unsatisfied => refuse_range(site, page, closes, is_head),
+    }
+}
+
+/// The head and the body of the redirect to the folder whose name is in the room, where the site
+/// redirects to it.
+fn redirect_parts<'s>(
+    site: &'s Site,
+    closes: bool,
+    room: &mut PathRoom,
+) -> Option<(&'s [u8], &'s [u8])>
+    ensures { option_map (λ parts. (parts.0.now, parts.1.now)) result
+        ≡ option_map (parts_to closes) (folder_index site.now room.old) }
+{
+    if !site.options().redirects_to_folders {
+        return None;
+    }
+    if !room.put(b"/index.html") {
+        site.limits();
+        return None;
+    }
+    match site.lookup(room.bytes()) {
+        Some(page) => page.redirect(closes),
+        None => None,
+    }
+}
+
+/// The answer to a request whose name, which is in the room, no file has: a redirect where a folder
+/// has it.
+fn answer_folder<'s>(site: &'s Site, closes: bool, is_head: bool, room: &mut PathRoom) -> Answer<'s>
+    ensures { Sends result
+        (folder_answer site.now (folder_index site.now room.old) closes is_head) }
+{
+    match redirect_parts(site, closes, room) {
+        Some((head, body)) => Answer {
+            parts: parts_of(head, body, is_head),
+            closes,
+            code: Status::MovedPermanently.code(),
+        },
+        None => refuse(site, Status::NotFound, closes, is_head),
     }
 }
 
@@ -227,7 +269,7 @@ fn answer_path<'s>(
     }
     match site.lookup(room.bytes()) {
         Some(page) => answer_file(site, request, &page, closes, is_head),
-        None => refuse(site, Status::NotFound, closes, is_head),
+        None => answer_folder(site, closes, is_head, room),
     }
 }
 

@@ -9,6 +9,6 @@ pub struct Answer<'s> {
     pub parts: Parts<'s>,
     /// The connection ends after them.
     pub closes: bool,
-    /// The status code: 200, 206, 304, 400, 404, 405, 416, 431 or 501.
+    /// The status code: 200, 206, 301, 304, 400, 404, 405, 416, 431 or 501.
     pub code: u16,
 }

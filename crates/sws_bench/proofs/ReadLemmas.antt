@@ -9,8 +9,8 @@ use Rattle.sws_link.specs.Contents.{IsPrefix}
 use Rattle.sws_link.specs.LinkItems.{all_bytes}
 use Rattle.sws_link.specs.MemLink.{MemLinkState}
 use Rattle.sws_link.specs.MemWorld.{MemWorldState}
-use Rattle.sws_engine.specs.declared.ended.Ended.{Ended}
-use Rattle.sws_engine.specs.declared.ended.Served.{Served}
+use Rattle.sws_handlers.specs.declared.ended.Ended.{Ended}
+use Rattle.sws_handlers.specs.declared.ended.Served.{Served}
 use Rattle.sws_answer.specs.Responses.{answers, answers_to, responses_of, texts_of}
 use Rattle.sws_conn.specs.Outcome.{Input, scripted_input, outcome_of}
 use Rattle.sws_script.specs.Scripted.{script_of}

@@ -205,7 +205,7 @@ fine_case ((false, status) ∷ rows) otherwise fine all = fine_case rows otherwi
 
 stays : (site : SiteState) (digits : List ℕ) → (row_of (request_status site (asked_for digits))).closes ≡ false
 unfolding request_status
-stays site digits = fine_case (request_cases site (asked_for digits)) Success refl (inl refl, (inr refl, (inr refl, (inl refl, (inr refl, (inr refl, (inr refl, (inr refl, tt))))))))
+stays site digits = fine_case (request_cases site (asked_for digits)) Success refl (inl refl, (inr refl, (inr refl, (inl refl, (inr refl, (inr refl, (inr refl, (inr refl, (inr refl, tt)))))))))
 
 both_false : (a b : Bool) → a ≡ false → b ≡ false → (a || b || false) ≡ false
 both_false true b none other = absurd (true≢false none)

@@ -2,8 +2,8 @@
 use Rattle.std.specs.Prelude.{ℕ, Option, None, Some}
 use Rattle.sws_link.specs.declared.Opened.{Opened}
 use Rattle.sws_link.specs.declared.Opened.TheVariants as opened
-use Rattle.sws_engine.specs.declared.Verdict.{Verdict}
-use Rattle.sws_engine.specs.declared.Verdict.TheVariants as verdict
+use Rattle.sws_handlers.specs.declared.Verdict.{Verdict}
+use Rattle.sws_handlers.specs.declared.Verdict.TheVariants as verdict
 use Rattle.sws_daemon.specs.declared.cause.Cause.{Cause}
 use Rattle.sws_daemon.specs.declared.cause.Cause.TheVariants as cause
 

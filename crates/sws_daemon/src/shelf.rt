@@ -102,6 +102,8 @@ fn site_options() -> SiteOptions
     SiteOptions {
         removes_dot_segments: true,
         knows_more_types: true,
+        sends_not_found_page: true,
+        redirects_to_folders: true,
     }
 }
 

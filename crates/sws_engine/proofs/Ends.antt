@@ -1,12 +1,2 @@
-pub mod PartedLemmas
-pub mod LeftLemmas
-pub mod HandingLemmas
-pub mod ConcludeLemmas
-pub mod SeatsOfRunLemmas
-pub mod ConcludedLemmas
-pub mod LogTurnsLemmas
-pub mod HasRunLemmas
 pub mod ThreadLemmas
-pub mod InitialServedLemmas
-pub mod HandedLemmas
 pub mod HandledLemmas

@@ -18,16 +18,16 @@ use Rattle.mely_worker.specs.declared.app.App.{Ghosts as AppWords}
 use Rattle.sws_link.specs.declared.Link.{Ghosts as LinkWords}
 use Rattle.sws_link.specs.declared.world.World.{Ghosts as WorldWords}
 use Rattle.sws_steps.specs.declared.talk.Talk.{Ghosts as TalkWords}
-use Rattle.sws_engine.specs.declared.ended.Ended.{Ended}
-use Rattle.sws_engine.specs.declared.ended.Verdict.TheVariants as verdict
-use Rattle.sws_engine.specs.declared.load.Load.{Load}
-use Rattle.sws_engine.specs.declared.load.Load.TheVariants as load
-use Rattle.sws_engine.specs.Counting.{colours_over}
-use Rattle.sws_engine.specs.Handling.{Put, Runs}
-use Rattle.sws_engine.specs.Initial.{first_poll, initial_load}
-use Rattle.sws_engine.specs.Loads.{FitsTold}
-use Rattle.sws_engine.specs.Place.{PlaceState}
-use Rattle.sws_engine.specs.ServerLeaves.{HasNotBegun, HasRun, histories_in}
+use Rattle.sws_handlers.specs.declared.ended.Ended.{Ended}
+use Rattle.sws_handlers.specs.declared.ended.Verdict.TheVariants as verdict
+use Rattle.sws_handlers.specs.declared.load.Load.{Load}
+use Rattle.sws_handlers.specs.declared.load.Load.TheVariants as load
+use Rattle.sws_handlers.specs.Counting.{colours_over}
+use Rattle.sws_handlers.specs.Handling.{Put, Runs}
+use Rattle.sws_handlers.specs.Initial.{first_poll, initial_load}
+use Rattle.sws_handlers.specs.Loads.{FitsTold}
+use Rattle.sws_handlers.specs.Place.{PlaceState}
+use Rattle.sws_weave.specs.ServerLeaves.{HasNotBegun, HasRun, histories_in}
 
 -- an app over so many links, with the log or without, accounts for the weave, where this was posted
 pub record IsAccountedBy {R S P F : Type 0} (t : TrailWords S F)

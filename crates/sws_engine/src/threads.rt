@@ -3,7 +3,7 @@
 ghost use Rattle.std.specs.Prelude.{◌≡◌, ◌≢◌, ◌≤◌, ◌+◌, [], ◌∷◌, Some, IfOk, IfErr, map, slice_get};
 ghost use Rattle.std.specs.List.{AllByRecursion};
 ghost use Rattle.mely_chain.specs.WeaveTold.{IsTold};
-ghost use Rattle.mely_crew.specs.Crew.{IsRegistered};
+ghost use Rattle.mely_crew.specs.Crew.{IsRegistered, RanBehind};
 ghost use Rattle.mely_history.specs.Setup.{is_listed};
 ghost use Rattle.mely_tally.specs.Account.{IsAccounted};
 ghost use Rattle.mely_weave.specs.Dealing.{AtEach};
@@ -11,27 +11,20 @@ ghost use Rattle.mely_weave.specs.Drains.{SomeHalted};
 ghost use Rattle.mely_weave.specs.Making.{AreInitial};
 ghost use Rattle.mely_worker.specs.Access.{FitsSetup};
 ghost use Rattle.mely_worker.specs.Conditions.{AppServes};
-ghost use Rattle.sws_engine.specs.Begins.{AreInitialFor, IsAtRest, IsSetFor, IsShapedFor};
-ghost use Rattle.sws_engine.specs.Counting.{colours_over};
-ghost use Rattle.sws_engine.specs.CrewEnds.{CrewEnds};
+ghost use Rattle.sws_weave.specs.Begins.{AreInitialFor, IsAtRest, IsSetFor, IsShapedFor};
+ghost use Rattle.sws_handlers.specs.Counting.{colours_over};
+ghost use Rattle.sws_weave.specs.CrewEnds.{CrewEnds};
 ghost use Rattle.sws_engine.specs.CrewLeaves.{CrewLeaves, HandlersRan, IsAccountedBy, IsToldBy, first_put};
-ghost use Rattle.sws_engine.specs.Initial.{AreInitialPlacesOver, first_poll};
-ghost use Rattle.sws_engine.specs.Invariant.{IsConsistent};
-ghost use Rattle.sws_engine.specs.RunFits.{RunFits};
-ghost use Rattle.sws_engine.specs.PartsKept.{PartsKept};
-ghost use Rattle.sws_engine.specs.ServerLeaves.{ServerLeaves};
+ghost use Rattle.sws_engine.specs.Gated.{IsGated, RanBehindBy, ThreadsPassed};
+ghost use Rattle.sws_handlers.specs.Initial.{AreInitialPlacesOver, first_poll};
+ghost use Rattle.sws_handlers.specs.Invariant.{IsConsistent};
+ghost use Rattle.sws_weave.specs.RunFits.{RunFits};
+ghost use Rattle.sws_weave.specs.PartsKept.{PartsKept};
+ghost use Rattle.sws_weave.specs.ServerLeaves.{ServerLeaves};
 ghost use Rattle.sws_link.specs.Limits.{conn_limit};
-ghost use Rattle.sws_engine.specs.Modelled.{IsModelled};
-ghost use Rattle.sws_engine.specs.Scripted.{IsScheduled};
+ghost use Rattle.sws_weave.specs.Modelled.{IsModelled};
+ghost use Rattle.sws_weave.specs.Scripted.{IsScheduled};
 
-use crate::app::Sws;
-use crate::concluding::conclude;
-use crate::ended::{EndRoom, Ended};
-use crate::laws::each_path_opens_once;
-use crate::load::{Load, WorldLoad};
-use crate::place::Place;
-use crate::starting::{colour_count, first_event, initial_places};
-use crate::steps::{setup_of, talk_gated, unbegun};
 use mely_crew::run_crew;
 use mely_event::{Colour, Event, Fits, Trail, Unregistered};
 use mely_history::{Setup, Shape};
@@ -42,22 +35,20 @@ use std::alloc::Global;
 use std::sync::Wait;
 use std::thread::Threads;
 use sws_conn::{Conn, Talk};
+use sws_handlers::{
+    EndRoom, Ended, Load, Place, Sws, WorldLoad, a_state_is_consistent, colour_count, conclude,
+    first_event, initial_places,
+};
 use sws_link::World;
 use sws_site::Site;
-
-/// What the type of a state keeps, for contracts alone. A call does nothing.
-fn is_kept<W: World, T: Talk<W::Link>>(place: &Place<W, T>)
-    ensures { IsConsistent W.World W.Link.Link T.Talk place.now }
-{
-    let _role = &place.role;
-}
+use sws_weave::{each_path_opens_once, setup_of, talk_gated, unbegun};
 
 /// What the type of each state keeps, for contracts alone: states are read and stay.
 fn are_kept<W: World, T: Talk<W::Link>>(places: &[Place<W, T>])
     ensures { AtEach (λ number place. IsConsistent W.World W.Link.Link T.Talk place) places.now }
 {
     for place in places {
-        is_kept(place);
+        a_state_is_consistent(place);
     }
 }
 
@@ -95,6 +86,8 @@ fn run_lent<
         IsAccounted S.Trail S.fits_under A.App app.now (begin ∷ []) ran.0) }
     ensures told { IfOk result (λ ran. IsTold S.Trail S.fits_under A.App app.now
         (λ c. slice_get states.old.items c.0) (begin ∷ []) ran.0) }
+    ensures gated { IfOk result (λ ran. RanBehind S.Trail S.fits_under A.App app.now
+        (G.passes gate.now) (λ c. slice_get states.old.items c.0) (begin ∷ []) ran.1 ran.0) }
     ensures memory { IfOk result (λ ran. ran.1 ≡ Drained.Memory → SomeHalted ran.0) }
     ensures back { IfErr result (λ refused. refused ≡ record { event = begin.1; load = begin.2 }) }
 {
@@ -141,6 +134,11 @@ where
         ⟦<Place<W, T> as Fits<Load<W, W::Link>>>⟧.fits_under ⟦<Sws<W, T> as App>⟧
         (λ app. app.total) (λ app. app.log) (λ c. slice_get states.old.items c.0) total log
         (first_put total world ∷ []) ran.0) }
+    ensures gated { IfOk result (λ ran. RanBehindBy ⟦<Place<W, T> as Trail>⟧
+        ⟦<Place<W, T> as Fits<Load<W, W::Link>>>⟧.fits_under ⟦<Sws<W, T> as App>⟧
+        (λ app. app.total) (λ app. app.log) (G.passes gate.now)
+        (λ c. slice_get states.old.items c.0) total log (first_put total world ∷ []) ran.1
+        ran.0) }
     ensures memory { IfOk result (λ ran. ran.1 ≡ Drained.Memory → SomeHalted ran.0) }
     ensures back { IfErr result (λ back. back ≡ world) }
 {
@@ -196,6 +194,10 @@ where
         (map (λ history. history.items) ran.0.histories.items) ran.0.lost.items) }
     ensures ends { IfOk result (λ ran. ran.1 ≡ Drained.Empty → ran.0.lost.items ≡ []
         → CrewEnds T.Talk (W.tells world).total log ran.0.states.items) }
+    ensures gated { IfOk result (λ ran. ThreadsPassed T.Talk ⟦<Place<W, T> as Trail>⟧
+        ⟦<Place<W, T> as Fits<Load<W, W::Link>>>⟧.fits_under ⟦<Sws<W, T> as App>⟧
+        (λ app. app.total) (λ app. app.log) (G.passes gate.now) (T.contents_of hall) world
+        (W.tells world).total log (map (λ history. history.items) ran.0.histories.items)) }
     ensures listed { IfOk result (λ ran. AllByRecursion
         (λ history. history.listed ≡ is_listed setup.now) ran.0.histories.items) }
     ensures back { IfErr result (λ back. back ≡ world) }
@@ -257,6 +259,10 @@ where
         world log result }
     ensures crew { shape.now.cores ≢ 1 → CrewLeaves W.World W.Link.Link T.Talk shape.now
         (T.contents_of hall) world log result }
+    ensures gated { IsGated T.Talk ⟦<Place<W, T> as Trail>⟧
+        ⟦<Place<W, T> as Fits<Load<W, W::Link>>>⟧.fits_under ⟦<Sws<W, T> as App>⟧
+        (λ app. app.total) (λ app. app.log) (G.passes gate.now) (T.contents_of hall) world
+        (W.tells world).total log shape.now.cores result }
     ensures model { shape.now.cores ≡ 1 → IsModelled W.World W.Link.Link T.Talk
         (T.contents_of hall) shape.now world log [] result }
     ensures listed { AllByRecursion (λ history. history.listed ≡ listed)
@@ -308,6 +314,11 @@ where
     ensures crew { shape.now.cores ≢ 1
         → CrewLeaves W.World W.Link.Link ⟦<Conn<'s, W::Link> as Talk<W::Link>>⟧
         shape.now site.now world log result }
+    ensures gated { IsGated ⟦<Conn<'s, W::Link> as Talk<W::Link>>⟧
+        ⟦<Place<W, Conn<'s, W::Link>> as Trail>⟧
+        ⟦<Place<W, Conn<'s, W::Link>> as Fits<Load<W, W::Link>>>⟧.fits_under
+        ⟦<Sws<W, Conn<'s, W::Link>> as App>⟧ (λ app. app.total) (λ app. app.log)
+        (G.passes gate.now) site.now world (W.tells world).total log shape.now.cores result }
     ensures scheduled { shape.now.cores ≡ 1
         → IsScheduled W.World site.now shape.now world log [] result }
     ensures listed { AllByRecursion (λ history. history.listed ≡ listed)

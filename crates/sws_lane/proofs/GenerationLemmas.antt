@@ -10,7 +10,7 @@ use Rattle.sws_link.specs.declared.Opened.TheVariants as opened
 use Rattle.sws_link.specs.declared.world.World.{Ghosts as WorldWords}
 use Rattle.sws_site.specs.Site.{SiteState}
 use Rattle.sws_steps.specs.declared.talk.Talk.{Ghosts as TalkWords}
-use Rattle.sws_engine.specs.declared.ended.Ended.{Ended}
+use Rattle.sws_handlers.specs.declared.ended.Ended.{Ended}
 use Rattle.sws_lane.specs.Generations.{Generation, IsRun, IsRunBy, IsRunOfBursts, IsRunOfSteps, RunsBy, AreGenerations, AreTotals, LeavesBy, world_by}
 use Rattle.sws_lane.specs.Keepers.{KeeperCall, Report, IsCalled}
 use Rattle.sws_lane.specs.Keepers as call

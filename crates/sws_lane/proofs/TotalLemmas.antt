@@ -4,8 +4,8 @@ use Rattle.std.proofs.Common.{◌≡◌, ℕ, ◌+◌, ◌≤◌, cond, Bool, Li
 use Rattle.std.proofs.lemmas.List.Sums.{sum_by-append}
 use Rattle.std.proofs.lemmas.Grind.{flat_map-append}
 use Rattle.sws_link.specs.Counts.{full_count}
-use Rattle.sws_engine.specs.declared.ended.Ended.{Ended}
-use Rattle.sws_engine.specs.declared.ended.Served.{Served}
+use Rattle.sws_handlers.specs.declared.ended.Ended.{Ended}
+use Rattle.sws_handlers.specs.declared.ended.Served.{Served}
 use Rattle.sws_lane.specs.Generations.{Generation, AreTotals, all_served, served_by}
 use Rattle.sws_lane.specs.Totals.{AddsUp, AreKept, both_totals, capped, is_done, is_fault, is_idle, no_totals, one_generation}
 use Rattle.sws_lane.specs.declared.totals.Totals.{Totals}

@@ -20,12 +20,12 @@ use Rattle.sws_steps.specs.declared.Next.TheVariants as next
 use Rattle.sws_steps.specs.ConnCore.{end_at}
 use Rattle.sws_steps.specs.Talks.{TalkView, ServesLink, ServesTold, reported_end}
 use Rattle.sws_steps.specs.declared.talk.Talk.{Ghosts as TalkWords}
-use Rattle.sws_engine.specs.ConnLeft.{LinkLeft}
-use Rattle.sws_engine.specs.Counting.{colours_over}
-use Rattle.sws_engine.specs.Loads.{IsComing}
-use Rattle.sws_engine.specs.ServerLeaves.{ServerLeaves}
-use Rattle.sws_engine.specs.declared.ended.Ended.{Ended}
-use Rattle.sws_engine.specs.declared.ended.Served.{Served}
+use Rattle.sws_weave.specs.ConnLeft.{LinkLeft}
+use Rattle.sws_handlers.specs.Counting.{colours_over}
+use Rattle.sws_handlers.specs.Loads.{IsComing}
+use Rattle.sws_weave.specs.ServerLeaves.{ServerLeaves}
+use Rattle.sws_handlers.specs.declared.ended.Ended.{Ended}
+use Rattle.sws_handlers.specs.declared.ended.Served.{Served}
 use Rattle.sws_lane.specs.Generations.{Generation, IsRunBy, RunsBy, AreGenerations, InTurn, IsServedInTurn, accepted_by, all_accepted, served_by, world_by}
 use Rattle.sws_lane.specs.declared.lane.Terms.{Terms}
 

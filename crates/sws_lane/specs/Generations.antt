@@ -11,11 +11,11 @@ use Rattle.sws_log.specs.declared.line.LogLine.{LogLine}
 use Rattle.sws_site.specs.Site.{SiteState}
 use Rattle.sws_steps.specs.declared.End.TheVariants as ending
 use Rattle.sws_steps.specs.declared.talk.Talk.{Ghosts as TalkWords}
-use Rattle.sws_engine.specs.Modelled.{IsModelled}
-use Rattle.sws_engine.specs.Scripted.{IsScheduled}
-use Rattle.sws_engine.specs.ServerLeaves.{ServerLeaves}
-use Rattle.sws_engine.specs.declared.ended.Ended.{Ended}
-use Rattle.sws_engine.specs.declared.ended.Served.{Served}
+use Rattle.sws_weave.specs.Modelled.{IsModelled}
+use Rattle.sws_weave.specs.Scripted.{IsScheduled}
+use Rattle.sws_weave.specs.ServerLeaves.{ServerLeaves}
+use Rattle.sws_handlers.specs.declared.ended.Ended.{Ended}
+use Rattle.sws_handlers.specs.declared.ended.Served.{Served}
 use Rattle.sws_lane.specs.Keepers.{Report}
 use Rattle.sws_lane.specs.Totals.{capped, is_done, is_idle, is_fault, no_totals}
 use Rattle.sws_lane.specs.declared.lane.Terms.{Terms}

@@ -1,6 +1,6 @@
 -- What the keeper of a lane is asked and told, and what it answers.
 use Rattle.std.specs.Prelude.{◌≡◌, Bool, true, false, List, [], ◌∷◌, ◌++◌, Option, option_map}
-use Rattle.sws_engine.specs.declared.ended.Verdict.{Verdict}
+use Rattle.sws_handlers.specs.declared.ended.Verdict.{Verdict}
 use Rattle.sws_link.specs.declared.Opened.{Opened}
 use Rattle.sws_log.specs.declared.line.LogLine.{LogLine}
 use Rattle.sws_site.specs.Site.{SiteState}

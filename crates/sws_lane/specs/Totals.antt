@@ -3,7 +3,7 @@ use Rattle.std.specs.Prelude.{◌≡◌, ℕ, ◌+◌, ◌≤◌, min, Bool, tru
 use Rattle.sws_link.specs.Counts.{full_count}
 use Rattle.sws_steps.specs.declared.End.{End}
 use Rattle.sws_steps.specs.declared.End.TheVariants as ending
-use Rattle.sws_engine.specs.declared.ended.Served.{Served}
+use Rattle.sws_handlers.specs.declared.ended.Served.{Served}
 use Rattle.sws_lane.specs.declared.totals.Totals.{Totals}
 
 -- a number that is kept in 64 bits, and stays at the greatest of these

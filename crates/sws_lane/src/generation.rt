@@ -1,6 +1,6 @@
 //! One generation of a lane.
 ghost use Rattle.std.specs.Prelude.{◌≡◌, [], None, Some};
-ghost use Rattle.sws_engine.specs.Begins.{IsShapedFor};
+ghost use Rattle.sws_weave.specs.Begins.{IsShapedFor};
 ghost use Rattle.sws_lane.specs.Generations.{IsRun, LeavesBy};
 ghost use Rattle.sws_lane.specs.Keepers.{report_of};
 ghost use Rattle.sws_lane.specs.Terms.{AreTerms};

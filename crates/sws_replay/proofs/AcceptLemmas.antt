@@ -13,7 +13,7 @@ use Rattle.mely_history.specs.declared.setup.Setup.{Setup}
 use Rattle.mely_history.specs.declared.shape.Shape.{Shape}
 use Rattle.mely_machine.specs.Rules.{Rules, rules_of, owner_by, worth_by}
 use Rattle.mely_check.specs.Journals.{AreFit, entries_in, line_limit}
-use Rattle.sws_engine.specs.ServerRun.{server_rules}
+use Rattle.sws_weave.specs.ServerRun.{server_rules}
 use Rattle.sws_log.specs.declared.line.LogLine.{LogLine}
 use Rattle.mely_journal.specs.Journal.{journal}
 use Rattle.sws_script.specs.declared.input.Input.{Input}

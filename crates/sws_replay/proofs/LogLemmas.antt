@@ -9,7 +9,7 @@ use Rattle.mely_history.specs.declared.shape.Shape.{Shape}
 use Rattle.mely_machine.specs.Rules.{Rules}
 use Rattle.mely_weave.proofs.Wholes.GatherLemmas.{get_there}
 use Rattle.mely_weave.specs.Side.{shard_of}
-use Rattle.sws_engine.specs.LogTurns.{lines_for}
+use Rattle.sws_handlers.specs.LogTurns.{lines_for}
 use Rattle.sws_log.specs.declared.line.LogLine.{LogLine}
 use Rattle.sws_script.specs.declared.input.ScriptConn.{ScriptConn}
 use Rattle.sws_replay.specs.Expected.{Expected}

@@ -15,17 +15,17 @@ use Rattle.sws_conn.specs.Talks.{TalkView, ServesLink, ServesTold}
 use Rattle.sws_steps.specs.declared.End.{End}
 use Rattle.sws_steps.specs.declared.End.TheVariants.{Memory}
 use Rattle.sws_steps.specs.declared.talk.Talk.{Ghosts as TalkWords}
-use Rattle.sws_engine.specs.ConnFollows.{ConnFollows}
-use Rattle.sws_engine.specs.ConnLeft.{LinkLeft, ConnLeft}
-use Rattle.sws_engine.specs.Counting.{colours_over}
-use Rattle.sws_engine.specs.Tasks.{event_for}
-use Rattle.sws_engine.specs.LogTurns.{lines_for}
-use Rattle.sws_engine.specs.Loads.{IsComing, LinkStands, WorldStands}
-use Rattle.sws_engine.specs.ServerLeaves.{HasRun, ServerLeaves}
-use Rattle.sws_engine.specs.declared.ended.Ended.{Ended}
-use Rattle.sws_engine.specs.declared.ended.Served.{Served}
-use Rattle.sws_engine.specs.declared.ended.Verdict.{Verdict}
-use Rattle.sws_engine.specs.declared.ended.Verdict.TheVariants as verdict
+use Rattle.sws_weave.specs.ConnFollows.{ConnFollows}
+use Rattle.sws_weave.specs.ConnLeft.{LinkLeft, ConnLeft}
+use Rattle.sws_handlers.specs.Counting.{colours_over}
+use Rattle.sws_handlers.specs.Tasks.{event_for}
+use Rattle.sws_handlers.specs.LogTurns.{lines_for}
+use Rattle.sws_handlers.specs.Loads.{IsComing, LinkStands, WorldStands}
+use Rattle.sws_weave.specs.ServerLeaves.{HasRun, ServerLeaves}
+use Rattle.sws_handlers.specs.declared.ended.Ended.{Ended}
+use Rattle.sws_handlers.specs.declared.ended.Served.{Served}
+use Rattle.sws_handlers.specs.declared.ended.Verdict.{Verdict}
+use Rattle.sws_handlers.specs.declared.ended.Verdict.TheVariants as verdict
 use Rattle.sws_link.specs.Links.{LinkContents, input_of}
 use Rattle.sws_link.specs.MemLinks.{bytes_tell, mem_link_tells}
 use Rattle.sws_link.specs.MemLink.{MemLinkState}

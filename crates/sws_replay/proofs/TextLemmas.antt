@@ -8,9 +8,9 @@ use Rattle.mely_history.specs.declared.entry.Entry.{Entry}
 use Rattle.mely_history.specs.declared.shape.Shape.{Shape}
 use Rattle.sws_steps.specs.declared.End.{End}
 use Rattle.mely_check.specs.Journals.{IsFitHistory}
-use Rattle.sws_engine.specs.ServerRun.{IsServerRun}
-use Rattle.sws_engine.specs.declared.ended.Ended.{Ended}
-use Rattle.sws_engine.specs.declared.ended.Served.{Served}
+use Rattle.sws_weave.specs.ServerRun.{IsServerRun}
+use Rattle.sws_handlers.specs.declared.ended.Ended.{Ended}
+use Rattle.sws_handlers.specs.declared.ended.Served.{Served}
 use Rattle.sws_link.specs.Contents.{Puts}
 use Rattle.sws_link.specs.Counts.{Count, HasCause}
 use Rattle.sws_link.specs.MemLink.{MemLinkState}

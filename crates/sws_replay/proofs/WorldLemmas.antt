@@ -3,7 +3,7 @@ use Rattle.std.proofs.Common.{◌≡◌, ℕ, zero, suc, List, [], ◌∷◌, So
 use Rattle.std.specs.Prelude.{slice_get, IsTrue}
 use Rattle.std.proofs.lemmas.List.{length-map}
 use Rattle.std.proofs.lemmas.Option.{same_Some}
-use Rattle.sws_engine.specs.Scripted.{TellsScripts}
+use Rattle.sws_weave.specs.Scripted.{TellsScripts}
 use Rattle.sws_link.specs.Scripts.{Script}
 use Rattle.sws_link.specs.Worlds.{Coming, WorldContents}
 use Rattle.sws_link.specs.declared.world.World.{Ghosts as WorldWords}

@@ -7,8 +7,8 @@ use Rattle.mely_history.specs.declared.setup.Setup.{Setup}
 use Rattle.mely_history.specs.declared.shape.Shape.{Shape}
 use Rattle.mely_check.specs.Journals.{entries_in, line_limit}
 use Rattle.mely_check.specs.Verdicts.{IsDrainedRun}
-use Rattle.sws_engine.specs.Counting.{colours_over}
-use Rattle.sws_engine.specs.ServerRun.{handler_rows}
+use Rattle.sws_handlers.specs.Counting.{colours_over}
+use Rattle.sws_weave.specs.ServerRun.{handler_rows}
 use Rattle.sws_log.specs.Lines.{log_text}
 use Rattle.sws_log.specs.declared.line.LogLine.{LogLine}
 use Rattle.mely_journal.specs.Journal.{journal}

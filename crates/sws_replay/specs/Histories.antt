@@ -9,9 +9,9 @@ use Rattle.mely_history.specs.declared.setup.Setup.{Setup}
 use Rattle.mely_history.specs.declared.shape.Shape.{Shape}
 use Rattle.mely_machine.specs.Rules.{rules_of}
 use Rattle.mely_weave.specs.Side.{shard_of}
-use Rattle.sws_engine.specs.Counting.{colours_over}
-use Rattle.sws_engine.specs.Tasks.{event_for}
-use Rattle.sws_engine.specs.ServerRun.{server_rules}
+use Rattle.sws_handlers.specs.Counting.{colours_over}
+use Rattle.sws_handlers.specs.Tasks.{event_for}
+use Rattle.sws_weave.specs.ServerRun.{server_rules}
 use Rattle.sws_log.specs.declared.line.LogLine.{LogLine}
 use Rattle.sws_script.specs.Scripted.{script_of}
 use Rattle.sws_script.specs.declared.input.ScriptConn.{ScriptConn}

@@ -2,7 +2,7 @@
 -- but that of each connection's own lines.
 use Rattle.std.specs.Prelude.{◌≡◌, ◌<◌, ℕ, Bool, true, false, List, [], Some, length, slice_get}
 use Rattle.std.specs.List.{AllByRecursion}
-use Rattle.sws_engine.specs.LogTurns.{lines_for}
+use Rattle.sws_handlers.specs.LogTurns.{lines_for}
 use Rattle.sws_link.specs.LinkItems.{all_bytes}
 use Rattle.sws_log.specs.Lines.{lines_within}
 use Rattle.sws_log.specs.declared.line.LogLine.{LogLine}

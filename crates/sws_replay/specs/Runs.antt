@@ -4,10 +4,10 @@ use Rattle.std.specs.List.{AllByRecursion}
 use Rattle.mely_history.specs.declared.entry.Entry.{Entry}
 use Rattle.mely_history.specs.declared.shape.Shape.{Shape}
 use Rattle.sws_steps.specs.declared.End.TheVariants.{Memory}
-use Rattle.sws_engine.specs.declared.ended.Ended.{Ended}
-use Rattle.sws_engine.specs.declared.ended.Served.{Served}
-use Rattle.sws_engine.specs.declared.ended.Verdict.{Verdict}
-use Rattle.sws_engine.specs.declared.ended.Verdict.TheVariants as verdict
+use Rattle.sws_handlers.specs.declared.ended.Ended.{Ended}
+use Rattle.sws_handlers.specs.declared.ended.Served.{Served}
+use Rattle.sws_handlers.specs.declared.ended.Verdict.{Verdict}
+use Rattle.sws_handlers.specs.declared.ended.Verdict.TheVariants as verdict
 use Rattle.sws_link.specs.LinkItems.{all_bytes}
 use Rattle.sws_link.specs.MemLink.{MemLinkState}
 use Rattle.sws_link.specs.MemLinks.{bytes_tell}

@@ -3,7 +3,7 @@ use Rattle.std.specs.Prelude.{◌≡◌, ◌≢◌, ℕ, Bool, true, false, List
 use Rattle.mely_history.specs.declared.entry.Entry.{Entry}
 use Rattle.sws_steps.specs.declared.End.{End}
 use Rattle.sws_steps.specs.declared.End.TheVariants.{Done, Memory}
-use Rattle.sws_engine.specs.declared.ended.Served.{Served}
+use Rattle.sws_handlers.specs.declared.ended.Served.{Served}
 use Rattle.sws_link.specs.MemLink.{MemLinkState}
 use Rattle.mely_journal.specs.Journal.{journal}
 

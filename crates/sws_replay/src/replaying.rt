@@ -6,7 +6,7 @@ ghost use Rattle.sws_script.specs.Inputs.{IsInput};
 ghost use Rattle.sws_replay.specs.Expected.{by_http, of_talk};
 ghost use Rattle.sws_replay.specs.OfInput.{AreOfInput};
 ghost use Rattle.sws_replay.specs.Replays.{IsReplay, IsScheduledReplay, WritesOne, result_of};
-ghost use Rattle.sws_engine.specs.Counting.{colours_over};
+ghost use Rattle.sws_handlers.specs.Counting.{colours_over};
 ghost use Rattle.sws_link.specs.Limits.{conn_limit};
 
 use crate::fault::RunFault;

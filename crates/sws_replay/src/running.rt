@@ -1,8 +1,8 @@
 //! A script run by talks of a hall, by threads or by a schedule.
 ghost use Rattle.std.specs.Prelude.{◌≡◌, ◌≤◌, ◌<◌, ◌^◌, All, None, IfOk, IfErr, MatchResult, length, map, sum_by};
 ghost use Rattle.mely_history.specs.Setup.{first_out_of_range};
-ghost use Rattle.sws_engine.specs.Counting.{colours_over};
-ghost use Rattle.sws_engine.specs.ServerRun.{IsServerRun};
+ghost use Rattle.sws_handlers.specs.Counting.{colours_over};
+ghost use Rattle.sws_weave.specs.ServerRun.{IsServerRun};
 ghost use Rattle.sws_link.specs.MemWorlds.{mem_world_tells};
 ghost use Rattle.sws_script.specs.Scripted.{script_of, told_of};
 ghost use Rattle.sws_replay.specs.Expected.{by_http, of_talk};

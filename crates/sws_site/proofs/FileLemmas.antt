@@ -1,6 +1,7 @@
 -- The first file of a name.
-use Rattle.std.proofs.Common.{◌≡◌, ℕ, ◌+◌, ◌<◌, ◌≤◌, zero, suc, Bool, true, false, List, [], ◌∷◌, length, None, refl, ap, ◌∙◌, arith}
-use Rattle.std.specs.Prelude.{All, Some, slice_get, if◌then◌else◌}
+use Rattle.std.proofs.Common.{inl, inr, ◌≡◌, ℕ, ◌+◌, ◌<◌, ◌≤◌, zero, suc, Bool, true, false, List, [], ◌∷◌, length, None, refl, sym, ap, ◌∙◌, arith}
+use Rattle.std.proofs.lemmas.Bool.{cases_lt}
+use Rattle.std.specs.Prelude.{◌⊎◌, All, Some, slice_get, if◌then◌else◌}
 use Rattle.std.specs.Str.{bytes_eq}
 use Rattle.std.proofs.lemmas.List.Sums.{sum_by-append}
 use Rattle.std.proofs.lemmas.Slice.Eq.{bytes_eq-Decides}
@@ -26,6 +27,27 @@ no_file-longer (file ∷ files) name short long =
 -- a site has no file of a name that is too long
 pub file_named-long : (files : List File) (name : List ℕ) → IsWithinLimits files → 1024 < length name → file_named name files ≡ None
 file_named-long files name within long = no_file-longer files name within.names long
+
+-- the file that is found has the name
+pub file_named-name : (files : List File) (name : List ℕ) (file : File) → file_named name files ≡ Some file → file.0 ≡ name
+file_named-name [] name file e = absurd (cc)
+file_named-name (first ∷ files) name file e = by_test (bytes_eq first.0 name) refl (λ f. file_named-name files name file f) e
+  where
+    by_test : (t : Bool) → bytes_eq first.0 name ≡ t → (file_named name files ≡ Some file → file.0 ≡ name)
+        → (if t then Some first else file_named name files) ≡ Some file → file.0 ≡ name
+    by_test true is later f = (let same : first ≡ file = cc in sym (ap (λ (x : File). x.0) same) ∙ (bytes_eq-Decides first.0 name).0 is)
+    by_test false is later f = later f
+
+-- so its name is no longer than a name may be
+pub file_named-name-short : (files : List File) (name : List ℕ) (file : File) → IsWithinLimits files → file_named name files ≡ Some file → length file.0 ≤ 1024
+file_named-name-short files name file within e = by_length (cases_lt 1024 (length name))
+  where
+    same : length file.0 ≡ length name
+    same = ap length (file_named-name files name file e)
+
+    by_length : (1024 < length name) ⊎ (length name ≤ 1024) → length file.0 ≤ 1024
+    by_length (inl long) = (let none = file_named-long files name within long in absurd (cc))
+    by_length (inr short) = omega (arith, same)
 
 -- the contents of a file are some of the contents of all
 pub file_named-short : (files : List File) (name : List ℕ) (file : File) → file_named name files ≡ Some file → length file.1 ≤ bytes_of files

@@ -1,5 +1,5 @@
 -- A head that is written line by line.
-use Rattle.std.proofs.Common.{◌≡◌, ◌+◌, ◌≤◌, ℕ, Bool, true, List, [], ◌∷◌, ◌++◌, length, sym, ap, subst, ◌∙◌, append_assoc, append-nil, length-append, arith, Option, Some}
+use Rattle.std.proofs.Common.{◌≡◌, ◌+◌, ◌≤◌, ℕ, Bool, true, List, [], ◌∷◌, ◌++◌, length, sym, ap, subst, ◌∙◌, append_assoc, append-nil, length-append, arith, Option, Some, None}
 use Rattle.std.proofs.lemmas.Grind.{flat_map-append}
 use Rattle.std.specs.Prelude.{codes, decimal}
 use Rattle.httpdate.specs.declared.date.HttpDate.{HttpDate}
@@ -94,7 +94,7 @@ pub head_text-parts : (head : ResponseHead) (row : Row) (a b c d e f g whole : L
     → f ≡ e ++ lines_text (range_lines row.has_range head.range)
     → g ≡ f ++ lines_text (content_lines row.body head.media_type head.len)
     → whole ≡ g ++ line_end
-    → whole ≡ head_text head
+    → whole ≡ head_text (record head { location = None })
 unfolding head_text
 head_text-parts head row a b c d e f g whole is_row is_a is_b is_c is_d is_e is_f is_g is_whole =
     added a b c d e f g whole ((codes "HTTP/1.1 " ++ row.text) ++ line_end) (server_line ++ line_end)
@@ -123,14 +123,14 @@ pub length-added : (new old more : List ℕ) → new ≡ old ++ more → length 
 length-added new old more is = ap length is ∙ length-append old more
 
 -- a head that has room has it for all its lines, by the row of its status
-pub head-fits : (head : ResponseHead) (row : Row) → row ≡ row_of head.status → length (head_text head) ≤ 256
+pub head-fits : (head : ResponseHead) (row : Row) → row ≡ row_of head.status → length (head_text head) ≤ 320
     → length ((codes "HTTP/1.1 " ++ row.text) ++ line_end) + length ((codes "Server: " ++ codes "sws") ++ line_end) + length (lines_text (connection_lines head.closes))
     + length (lines_text (last_modified_lines row.is_dated head.date)) + length (lines_text (allow_lines row.lists_methods))
-    + length (lines_text (range_lines row.has_range head.range)) + length (lines_text (content_lines row.body head.media_type head.len)) + 2 ≤ 256
+    + length (lines_text (range_lines row.has_range head.range)) + length (lines_text (content_lines row.body head.media_type head.len)) + 2 ≤ 320
 head-fits head row is fits = subst Fits (sym is) (omega (arith, length-head_text head))
   where
     Fits : Row → Type 0
     Fits row =
         length ((codes "HTTP/1.1 " ++ row.text) ++ line_end) + length ((codes "Server: " ++ codes "sws") ++ line_end) + length (lines_text (connection_lines head.closes))
         + length (lines_text (last_modified_lines row.is_dated head.date)) + length (lines_text (allow_lines row.lists_methods))
-        + length (lines_text (range_lines row.has_range head.range)) + length (lines_text (content_lines row.body head.media_type head.len)) + 2 ≤ 256
+        + length (lines_text (range_lines row.has_range head.range)) + length (lines_text (content_lines row.body head.media_type head.len)) + 2 ≤ 320

@@ -9,13 +9,13 @@ use Rattle.httpdate.specs.declared.date.HttpDate.{HttpDate}
 use Rattle.httpdate.specs.Date.{date_text}
 use Rattle.httpdate.specs.Text.{day_name, month_name}
 use Rattle.sws_site.specs.declared.statuses.Status.{Status}
-use Rattle.sws_site.specs.declared.statuses.Status.TheVariants.{Success, PartialContent, NotModified, BadRequest, NotFound, MethodNotAllowed, RangeNotSatisfiable, HeaderFieldsTooLarge, NotImplemented}
+use Rattle.sws_site.specs.declared.statuses.Status.TheVariants.{Success, PartialContent, MovedPermanently, NotModified, BadRequest, NotFound, MethodNotAllowed, RangeNotSatisfiable, HeaderFieldsTooLarge, NotImplemented}
 use Rattle.sws_site.specs.declared.heads.ContentRange.{ContentRange}
 use Rattle.sws_site.specs.declared.heads.ContentRange.TheVariants.{Selected, NoSuch}
 use Rattle.sws_site.specs.Statuses.{row_of}
 use Rattle.sws_site.specs.declared.options.SiteOptions.{SiteOptions}
 use Rattle.sws_site.specs.ContentTypes.{media_types, text_types, data_types, image_types, audio_types, video_types, archive_types, document_types, program_types, type_in, type_or, more_type_or, extension_of, content_type, media_type_of}
-use Rattle.sws_site.specs.ResponseHeads.{ResponseHead, status_line, server_line, connection_lines, date_lines, last_modified_lines, allow_lines, content_range_lines, range_lines, media_type_and_len_lines, content_lines, head_lines, line_end, lines_text, head_text}
+use Rattle.sws_site.specs.ResponseHeads.{ResponseHead, status_line, server_line, location_lines, connection_lines, date_lines, last_modified_lines, allow_lines, content_range_lines, range_lines, media_type_and_len_lines, content_lines, head_lines, line_end, lines_text, head_text}
 
 -- ---- words out of lists
 
@@ -31,78 +31,78 @@ chosen (word ∷ words) zero limit short =
 chosen (word ∷ words) (suc n) limit short =
     chosen words n limit (both (nat_le (length word) limit) (list_all (λ word. nat_le (length word) limit) words) short).1
 
-type_in-short : (rows : List (List ℕ × List ℕ)) (extension : List ℕ) → list_all (λ row. nat_le (length row.1) 32) rows ≡ true → length (type_in rows extension) ≤ 32
+type_in-short : (rows : List (List ℕ × List ℕ)) (extension : List ℕ) → list_all (λ row. nat_le (length row.1) 80) rows ≡ true → length (type_in rows extension) ≤ 80
 type_in-short [] extension short = lit≤ tt
 type_in-short (row ∷ rows) extension short =
     by_test (str_eq_ignore_ascii_case extension row.0) (type_in-short rows extension (parts.1))
   where
-    parts : (nat_le (length row.1) 32 ≡ true) × (list_all (λ row. nat_le (length row.1) 32) rows ≡ true)
-    parts = both (nat_le (length row.1) 32) (list_all (λ row. nat_le (length row.1) 32) rows) short
+    parts : (nat_le (length row.1) 80 ≡ true) × (list_all (λ row. nat_le (length row.1) 80) rows ≡ true)
+    parts = both (nat_le (length row.1) 80) (list_all (λ row. nat_le (length row.1) 80) rows) short
 
-    by_test : (t : Bool) → length (type_in rows extension) ≤ 32 → length (if t then row.1 else type_in rows extension) ≤ 32
-    by_test true later = leb-true (length row.1) 32 parts.0
+    by_test : (t : Bool) → length (type_in rows extension) ≤ 80 → length (if t then row.1 else type_in rows extension) ≤ 80
+    by_test true later = leb-true (length row.1) 80 parts.0
     by_test false later = later
 
 -- the media type of a file
-pub content_type-short : (name : List ℕ) → length (content_type name) ≤ 32
+pub content_type-short : (name : List ℕ) → length (content_type name) ≤ 80
 unfolding content_type media_types
 content_type-short name = type_in-short media_types (extension_of name) refl
 
 -- nor is it where the site knows more types
-type_or-short : (rows : List (List ℕ × List ℕ)) (otherwise extension : List ℕ) → list_all (λ row. nat_le (length row.1) 32) rows ≡ true → length otherwise ≤ 32
-    → length (type_or rows otherwise extension) ≤ 32
+type_or-short : (rows : List (List ℕ × List ℕ)) (otherwise extension : List ℕ) → list_all (λ row. nat_le (length row.1) 80) rows ≡ true → length otherwise ≤ 80
+    → length (type_or rows otherwise extension) ≤ 80
 type_or-short [] otherwise extension short few = few
 type_or-short (row ∷ rows) otherwise extension short few =
     by_test (str_eq_ignore_ascii_case extension row.0) (type_or-short rows otherwise extension (parts.1) few)
   where
-    parts : (nat_le (length row.1) 32 ≡ true) × (list_all (λ row. nat_le (length row.1) 32) rows ≡ true)
-    parts = both (nat_le (length row.1) 32) (list_all (λ row. nat_le (length row.1) 32) rows) short
+    parts : (nat_le (length row.1) 80 ≡ true) × (list_all (λ row. nat_le (length row.1) 80) rows ≡ true)
+    parts = both (nat_le (length row.1) 80) (list_all (λ row. nat_le (length row.1) 80) rows) short
 
-    by_test : (t : Bool) → length (type_or rows otherwise extension) ≤ 32 → length (if t then row.1 else type_or rows otherwise extension) ≤ 32
-    by_test true later = leb-true (length row.1) 32 parts.0
+    by_test : (t : Bool) → length (type_or rows otherwise extension) ≤ 80 → length (if t then row.1 else type_or rows otherwise extension) ≤ 80
+    by_test true later = leb-true (length row.1) 80 parts.0
     by_test false later = later
 
-program_type-short : (otherwise extension : List ℕ) → length otherwise ≤ 32 → length (type_or program_types otherwise extension) ≤ 32
+program_type-short : (otherwise extension : List ℕ) → length otherwise ≤ 80 → length (type_or program_types otherwise extension) ≤ 80
 unfolding program_types
 program_type-short otherwise extension few = type_or-short program_types otherwise extension refl few
 
-document_type-short : (otherwise extension : List ℕ) → length otherwise ≤ 32 → length (type_or document_types otherwise extension) ≤ 32
+document_type-short : (otherwise extension : List ℕ) → length otherwise ≤ 80 → length (type_or document_types otherwise extension) ≤ 80
 unfolding document_types
 document_type-short otherwise extension few = type_or-short document_types otherwise extension refl few
 
-archive_type-short : (otherwise extension : List ℕ) → length otherwise ≤ 32 → length (type_or archive_types otherwise extension) ≤ 32
+archive_type-short : (otherwise extension : List ℕ) → length otherwise ≤ 80 → length (type_or archive_types otherwise extension) ≤ 80
 unfolding archive_types
 archive_type-short otherwise extension few = type_or-short archive_types otherwise extension refl few
 
-video_type-short : (otherwise extension : List ℕ) → length otherwise ≤ 32 → length (type_or video_types otherwise extension) ≤ 32
+video_type-short : (otherwise extension : List ℕ) → length otherwise ≤ 80 → length (type_or video_types otherwise extension) ≤ 80
 unfolding video_types
 video_type-short otherwise extension few = type_or-short video_types otherwise extension refl few
 
-audio_type-short : (otherwise extension : List ℕ) → length otherwise ≤ 32 → length (type_or audio_types otherwise extension) ≤ 32
+audio_type-short : (otherwise extension : List ℕ) → length otherwise ≤ 80 → length (type_or audio_types otherwise extension) ≤ 80
 unfolding audio_types
 audio_type-short otherwise extension few = type_or-short audio_types otherwise extension refl few
 
-image_type-short : (otherwise extension : List ℕ) → length otherwise ≤ 32 → length (type_or image_types otherwise extension) ≤ 32
+image_type-short : (otherwise extension : List ℕ) → length otherwise ≤ 80 → length (type_or image_types otherwise extension) ≤ 80
 unfolding image_types
 image_type-short otherwise extension few = type_or-short image_types otherwise extension refl few
 
-data_type-short : (otherwise extension : List ℕ) → length otherwise ≤ 32 → length (type_or data_types otherwise extension) ≤ 32
+data_type-short : (otherwise extension : List ℕ) → length otherwise ≤ 80 → length (type_or data_types otherwise extension) ≤ 80
 unfolding data_types
 data_type-short otherwise extension few = type_or-short data_types otherwise extension refl few
 
-text_type-short : (otherwise extension : List ℕ) → length otherwise ≤ 32 → length (type_or text_types otherwise extension) ≤ 32
+text_type-short : (otherwise extension : List ℕ) → length otherwise ≤ 80 → length (type_or text_types otherwise extension) ≤ 80
 unfolding text_types
 text_type-short otherwise extension few = type_or-short text_types otherwise extension refl few
 
-pub more_type-short : (otherwise extension : List ℕ) → length otherwise ≤ 32 → length (more_type_or otherwise extension) ≤ 32
+pub more_type-short : (otherwise extension : List ℕ) → length otherwise ≤ 80 → length (more_type_or otherwise extension) ≤ 80
 unfolding more_type_or
 more_type-short otherwise extension few =
     text_type-short _ extension (data_type-short _ extension (image_type-short _ extension (audio_type-short _ extension (video_type-short _ extension (archive_type-short _ extension (document_type-short _ extension (program_type-short _ extension (few))))))))
 
-pub media_type_of-short : (options : SiteOptions) (name : List ℕ) → length (media_type_of options name) ≤ 32
+pub media_type_of-short : (options : SiteOptions) (name : List ℕ) → length (media_type_of options name) ≤ 80
 media_type_of-short options name = by_test options.knows_more_types
   where
-    by_test : (t : Bool) → length (if t then more_type_or (content_type name) (extension_of name) else content_type name) ≤ 32
+    by_test : (t : Bool) → length (if t then more_type_or (content_type name) (extension_of name) else content_type name) ≤ 80
     by_test true = more_type-short (content_type name) (extension_of name) (content_type-short name)
     by_test false = content_type-short name
 
@@ -157,19 +157,21 @@ range-short (Some (NoSuch len)) short =
     let a = digits-short len short in
     simp length-append (omega (arith, a))
 
-media_type_and_len-short : (media_type : List ℕ) (len : ℕ) → length media_type ≤ 32 → len < 2 ^ 64 → length (lines_text (media_type_and_len_lines media_type len)) ≤ 86
+media_type_and_len-short : (media_type : List ℕ) (len : ℕ) → length media_type ≤ 80 → len < 2 ^ 64 → length (lines_text (media_type_and_len_lines media_type len)) ≤ 134
 media_type_and_len-short media_type len short few =
     let digits = length-decimal-le 20 len (lit< tt) (omega arith) few in simp length-append (omega (arith, digits))
 
 -- a head is as long as its groups of lines together
 pub length-head_text : (head : ResponseHead)
     → length (head_text head)
-    ≡ length (status_line head.status ++ line_end) + length (server_line ++ line_end) + length (lines_text (connection_lines head.closes))
+    ≡ length (status_line head.status ++ line_end) + length (server_line ++ line_end) + length (lines_text (location_lines head.location))
+    + length (lines_text (connection_lines head.closes))
     + length (lines_text (last_modified_lines (row_of head.status).is_dated head.date)) + length (lines_text (allow_lines (row_of head.status).lists_methods))
     + length (lines_text (range_lines (row_of head.status).has_range head.range)) + length (lines_text (content_lines (row_of head.status).body head.media_type head.len))
     + 2
 unfolding head_text
 length-head_text head =
+    let l = location_lines head.location in
     let a = connection_lines head.closes in
     let b = last_modified_lines (row_of head.status).is_dated head.date in
     let c = allow_lines (row_of head.status).lists_methods in
@@ -178,16 +180,18 @@ length-head_text head =
     omega (
       arith,
       length-append (lines_text (head_lines head)) line_end,
-      length-append (status_line head.status ++ line_end) ((server_line ++ line_end) ++ lines_text (a ++ b ++ c ++ d ++ e)),
-      length-append (server_line ++ line_end) (lines_text (a ++ b ++ c ++ d ++ e)),
-      lines-append (a ++ b ++ c ++ d) e,
-      lines-append (a ++ b ++ c) d,
-      lines-append (a ++ b) c,
-      lines-append a b,
+      length-append (status_line head.status ++ line_end) ((server_line ++ line_end) ++ lines_text (l ++ a ++ b ++ c ++ d ++ e)),
+      length-append (server_line ++ line_end) (lines_text (l ++ a ++ b ++ c ++ d ++ e)),
+      lines-append (l ++ a ++ b ++ c ++ d) e,
+      lines-append (l ++ a ++ b ++ c) d,
+      lines-append (l ++ a ++ b) c,
+      lines-append (l ++ a) b,
+      lines-append l a,
     )
 
--- whatever it says, a head is short
-pub head_text-short : (head : ResponseHead) → length head.media_type ≤ 32 → head.len < 2 ^ 64 → IsShortRange head.range → length (head_text head) ≤ 256
+-- whatever it says, a head is short, but for the line of a location
+pub head_text-short : (head : ResponseHead) → length head.media_type ≤ 80 → head.len < 2 ^ 64 → IsShortRange head.range
+    → length (head_text head) ≤ 320 + length (lines_text (location_lines head.location))
 head_text-short head media_type few range = by_status head.status
   where
     connection : length (lines_text (connection_lines head.closes)) ≤ 19
@@ -199,16 +203,19 @@ head_text-short head media_type few range = by_status head.status
     about : length (lines_text (content_range_lines head.range)) ≤ 55
     about = range-short head.range range
 
-    content : length (lines_text (media_type_and_len_lines head.media_type head.len)) ≤ 86
+    content : length (lines_text (media_type_and_len_lines head.media_type head.len)) ≤ 134
     content = media_type_and_len-short head.media_type head.len media_type few
 
-    by_status : (status : Status) → length (head_text (record head { status = status })) ≤ 256
+    by_status : (status : Status) → length (head_text (record head { status = status })) ≤ 320 + length (lines_text (location_lines head.location))
     by_status Success =
         let line : length (status_line Success ++ line_end) ≤ 17 = lit≤ tt in
         omega (arith, length-head_text (record head { status = Success }), line, connection, dates, about, content)
     by_status PartialContent =
         let line : length (status_line PartialContent ++ line_end) ≤ 30 = lit≤ tt in
         omega (arith, length-head_text (record head { status = PartialContent }), line, connection, dates, about, content)
+    by_status MovedPermanently =
+        let line : length (status_line MovedPermanently ++ line_end) ≤ 32 = lit≤ tt in
+        omega (arith, length-head_text (record head { status = MovedPermanently }), line, connection, dates, about, content)
     by_status NotModified =
         let line : length (status_line NotModified ++ line_end) ≤ 27 = lit≤ tt in
         omega (arith, length-head_text (record head { status = NotModified }), line, connection, dates, about, content)

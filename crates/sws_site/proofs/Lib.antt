@@ -3,6 +3,7 @@ pub mod FileLemmas
 pub mod HeadLengthsLemmas
 mod ContentTypeLemmas
 mod HeadLemmas
+pub mod FolderLemmas
 mod PlaceLemmas
 mod SiteLemmas
 mod LoadLemmas

@@ -8,7 +8,7 @@ use Rattle.std.specs.BTreeMap.{insert_entry}
 use Rattle.sws_site.specs.declared.stored.StoredFile.{StoredFile}
 use Rattle.httpdate.specs.declared.date.HttpDate.{HttpDate}
 use Rattle.sws_site.specs.declared.options.SiteOptions.{SiteOptions}
-use Rattle.std.specs.Prelude.{option_map, slice_get}
+use Rattle.std.specs.Prelude.{option_map, slice_get, not, if◌then◌else◌}
 use Rattle.std.proofs.lemmas.List.{length-map}
 use Rattle.std.proofs.lemmas.Option.{slice_get-map, slice_get_read}
 use Rattle.sws_site.proofs.NameLemmas.{compare_keys, has_name, has_name-bytes, lookup-insert_entry}
@@ -74,6 +74,13 @@ pub found_in-none : (site : SiteState) (files : List StoredFile) (date : Option 
     → None ≡ found_in site name
 found_in-none site files date options name shows none =
     ap (option_map (page_of date options)) (sym none) ∙ ap (λ (s : SiteState). found_in s name) shows
+
+-- ---- the page for names that no file has
+
+-- the page of a site that sends it
+pub sends-kept : (sends : Bool) (found : Option File) → not sends ≡ false → found ≡ (if sends then found else None)
+sends-kept true found e = refl
+sends-kept false found e = absurd (cc)
 
 -- ---- the files by their numbers
 

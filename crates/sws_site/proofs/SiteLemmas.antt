@@ -9,34 +9,41 @@ use Rattle.sws_site.specs.declared.stored.StoredFile.{StoredFile}
 use Rattle.sws_site.specs.Statuses.{status_text}
 use Rattle.sws_site.specs.ResponseHeads.{head_text}
 use Rattle.sws_site.specs.Files.{file_head, not_modified_head}
-use Rattle.sws_site.specs.Fixed.{fixed_head, fixed_body, plain_text}
-use Rattle.sws_site.specs.BuiltResponses.{IsBuilt, built_head, IsRefusal}
+use Rattle.sws_site.specs.Fixed.{fixed_body, not_found_page, status_page, told_type, refusal_head, refusal_body}
+use Rattle.sws_site.specs.BuiltResponses.{IsBuilt, built_head}
+use Rattle.sws_site.specs.Refusals.{IsRefusal}
+use Rattle.sws_site.specs.Site.{SiteState}
 use Rattle.sws_site.specs.Stored.{HasHeads, file_of}
 
 -- either head
 built_head-text : (status : Status) (date : Option HttpDate) (media_type : List ℕ) (response : BuiltResponse) (closes : Bool) → IsBuilt status date media_type response
-    → built_head response closes ≡ head_text (record { status = status; closes = closes; date = date; range = None; media_type = media_type; len = length response.body.items })
+    → built_head response closes ≡ head_text (record { status = status; location = None; closes = closes; date = date; range = None; media_type = media_type; len = length response.body.items })
 built_head-text status date media_type response true built = built.closing_head
 built_head-text status date media_type response false built = built.open_head
 
 pub built_head-file : (options : SiteOptions) (date : Option HttpDate) (stored : StoredFile) (closes : Bool) → HasHeads options date stored
     → built_head stored.response closes ≡ file_head options date (file_of stored) closes
 unfolding file_head
-built_head-file options date stored closes has = built_head-text Success date _ stored.response closes has
+built_head-file options date stored closes has = built_head-text Success date _ stored.response closes has.response
 
 pub built_head-not_modified : (date : Option HttpDate) (response : BuiltResponse) (closes : Bool) → IsBuilt NotModified date [] response
     → response.body.items ≡ [] → built_head response closes ≡ not_modified_head date closes
 unfolding not_modified_head
 built_head-not_modified date response closes built none =
     built_head-text NotModified date [] response closes built
-    ∙ ap (λ (body : List ℕ). head_text (record { status = NotModified; closes = closes; date = date; range = None; media_type = []; len = length body })) none
+    ∙ ap (λ (body : List ℕ). head_text (record { status = NotModified; location = None; closes = closes; date = date; range = None; media_type = []; len = length body })) none
 
-pub built_head-refusal : (status : Status) (response : BuiltResponse) (closes : Bool) → IsRefusal status response
-    → built_head response closes ≡ fixed_head status closes
-unfolding fixed_head
-built_head-refusal status response closes refusal =
-    built_head-text status None plain_text response closes refusal.heads
-    ∙ ap (λ (body : List ℕ). head_text (record { status = status; closes = closes; date = None; range = None; media_type = plain_text; len = length body })) refusal.body
+pub built_head-refusal : (site : SiteState) (status : Status) (response : BuiltResponse) (closes : Bool)
+    → IsRefusal site.options (not_found_page site.options site.files) status response → built_head response closes ≡ refusal_head site status closes
+unfolding refusal_head
+built_head-refusal site status response closes refusal =
+    built_head-text status None (told_type site.options (status_page site status)) response closes refusal.heads
+    ∙ ap (λ (body : List ℕ). head_text (record { status = status; location = None; closes = closes; date = None; range = None; media_type = told_type site.options (status_page site status); len = length body })) refusal.body
+
+pub refusal_body-text : (site : SiteState) (status : Status) (response : BuiltResponse)
+    → IsRefusal site.options (not_found_page site.options site.files) status response → response.body.items ≡ refusal_body site status
+unfolding refusal_body
+refusal_body-text site status response refusal = refusal.body
 
 -- the line that tells the status
 pub fixed_body-text : (status : Status) (body : List ℕ) → body ≡ ([] ++ status_text status) ++ 10 ∷ [] → body ≡ fixed_body status

@@ -4,7 +4,6 @@ use Rattle.httpdate.specs.declared.date.HttpDate.{HttpDate}
 use Rattle.sws_site.specs.declared.statuses.Status.{Status}
 use Rattle.sws_site.specs.declared.built_responses.BuiltResponse.{BuiltResponse}
 use Rattle.sws_site.specs.ResponseHeads.{head_text}
-use Rattle.sws_site.specs.Fixed.{fixed_body, plain_text}
 
 -- the two heads are those of such a response with this body
 pub record IsBuilt (status : Status) (date : Option HttpDate) (media_type : List ℕ)
@@ -12,6 +11,7 @@ pub record IsBuilt (status : Status) (date : Option HttpDate) (media_type : List
   pub open_head : response.open_head.items
       ≡ head_text (record {
         status = status;
+        location = None;
         closes = false;
         date = date;
         range = None;
@@ -21,6 +21,7 @@ pub record IsBuilt (status : Status) (date : Option HttpDate) (media_type : List
   pub closing_head : response.closing_head.items
       ≡ head_text (record {
         status = status;
+        location = None;
         closes = true;
         date = date;
         range = None;
@@ -32,8 +33,3 @@ pub record IsBuilt (status : Status) (date : Option HttpDate) (media_type : List
 abbrev pub built_head : BuiltResponse → Bool → List ℕ
 built_head response closes =
     if closes then response.closing_head.items else response.open_head.items
-
--- the response refuses with this status
-pub record IsRefusal (status : Status) (response : BuiltResponse) : Type 0 where
-  pub body : response.body.items ≡ fixed_body status
-  pub heads : IsBuilt status None plain_text response

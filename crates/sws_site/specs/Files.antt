@@ -20,6 +20,7 @@ unfoldable pub file_head : SiteOptions → Option HttpDate → File → Bool →
 file_head options date file closes =
     head_text (record {
       status = Success;
+      location = None;
       closes = closes;
       date = date;
       range = None;
@@ -32,6 +33,7 @@ unfoldable pub not_modified_head : Option HttpDate → Bool → List ℕ
 not_modified_head date closes =
     head_text (record {
       status = NotModified;
+      location = None;
       closes = closes;
       date = date;
       range = None;

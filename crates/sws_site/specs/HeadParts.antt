@@ -1,12 +1,14 @@
 -- What the parts of a head say together.
+use Rattle.std.specs.Prelude.{None}
 use Rattle.sws_site.specs.declared.heads.HeadParts.{HeadParts}
 use Rattle.sws_site.specs.ResponseHeads.{ResponseHead}
 
--- the head that the parts say
+-- the head that the parts say, which names no other place
 abbrev pub head_of : HeadParts → ResponseHead
 head_of parts =
     record {
       status = parts.status;
+      location = None;
       closes = parts.closes;
       date = parts.date.now;
       range = parts.range;

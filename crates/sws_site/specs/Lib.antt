@@ -12,6 +12,8 @@ pub mod Steps
 pub mod HeadParts
 pub mod BuiltResponses
 pub mod Refusals
+pub mod Folders
+pub mod Redirects
 pub mod Stored
 pub mod StoredSites
 pub mod StoredPages

@@ -4,4 +4,9 @@ use Rattle.sws_site.specs.declared.options.SiteOptions.{SiteOptions}
 
 -- nothing
 abbrev pub plain_options : SiteOptions
-plain_options = record { removes_dot_segments = false; knows_more_types = false }
+plain_options = record {
+  removes_dot_segments = false;
+  knows_more_types = false;
+  sends_not_found_page = false;
+  redirects_to_folders = false;
+}

@@ -11,11 +11,13 @@ use Rattle.sws_site.specs.declared.heads.ContentRange.{ContentRange}
 use Rattle.sws_site.specs.declared.heads.ContentRange.TheVariants.{Selected, NoSuch}
 use Rattle.sws_site.specs.Statuses.{row_of, status_text}
 
--- what a head says: the status, whether the connection ends with this response, when the site was
--- last modified, which part of a file the response is about, and the media type and the length of
--- the content that it has, or would have for GET
+-- what a head says: the status, where what is asked for is to be found, if that is elsewhere, whether
+-- the connection ends with this response, when the site was last modified, which part of a file the
+-- response is about, and the media type and the length of the content that it has, or would have for
+-- GET
 pub record ResponseHead : Type 0 where
   pub status : Status
+  pub location : Option (List ℕ)
   pub closes : Bool
   pub date : Option HttpDate
   pub range : Option ContentRange
@@ -29,6 +31,11 @@ status_line status = codes "HTTP/1.1 " ++ status_text status
 -- RFC 9110, section 10.2.4
 abbrev pub server_line : List ℕ
 server_line = codes "Server: sws"
+
+-- the path of another resource, as a reference (RFC 9110, section 10.2.2)
+abbrev pub location_lines : Option (List ℕ) → List (List ℕ)
+location_lines None = []
+location_lines (Some path) = (codes "Location: " ++ path) ∷ []
 
 -- the connection ends with this response (RFC 9112, section 9.6)
 abbrev pub connection_lines : Bool → List (List ℕ)
@@ -82,7 +89,8 @@ head_lines head =
     let row = row_of head.status in
     status_line head.status
     ∷ server_line
-    ∷ (connection_lines head.closes
+    ∷ (location_lines head.location
+    ++ connection_lines head.closes
     ++ last_modified_lines row.is_dated head.date
     ++ allow_lines row.lists_methods
     ++ range_lines row.has_range head.range

@@ -2,7 +2,7 @@
 -- row of a table for each.
 use Rattle.std.specs.Prelude.{ℕ, Bool, true, false, ◌==◌, List, [], ◌∷◌, codes, find, Option}
 use Rattle.sws_site.specs.declared.statuses.Status.{Status}
-use Rattle.sws_site.specs.declared.statuses.Status.TheVariants.{Success, PartialContent, NotModified, BadRequest, NotFound, MethodNotAllowed, RangeNotSatisfiable, HeaderFieldsTooLarge, NotImplemented}
+use Rattle.sws_site.specs.declared.statuses.Status.TheVariants.{Success, PartialContent, MovedPermanently, NotModified, BadRequest, NotFound, MethodNotAllowed, RangeNotSatisfiable, HeaderFieldsTooLarge, NotImplemented}
 use Rattle.sws_site.specs.declared.statuses.Body.{Body}
 use Rattle.sws_site.specs.declared.statuses.Body.TheVariants.{Nothing, WholeFile, PartOfFile, StatusText}
 use Rattle.sws_site.specs.declared.statuses.StatusRow.{StatusRow}
@@ -16,6 +16,7 @@ pub record Row : Type 0 where
   pub is_dated : Bool
   pub lists_methods : Bool
   pub has_range : Bool
+  pub has_location : Bool
   pub body : Body
   pub closes : Bool
 
@@ -27,6 +28,7 @@ plain_row code text = record {
   is_dated = false;
   lists_methods = false;
   has_range = false;
+  has_location = false;
   body = StatusText;
   closes = false;
 }
@@ -39,6 +41,8 @@ row_of PartialContent = record (plain_row 206 (codes "206 Partial Content")) {
   has_range = true;
   body = PartOfFile;
 }
+row_of MovedPermanently =
+    record (plain_row 301 (codes "301 Moved Permanently")) { has_location = true }
 row_of NotModified =
     record (plain_row 304 (codes "304 Not Modified")) { is_dated = true; body = Nothing }
 row_of BadRequest = record (plain_row 400 (codes "400 Bad Request")) { closes = true }
@@ -68,6 +72,7 @@ row_value row =
       is_dated = row.is_dated;
       lists_methods = row.lists_methods;
       has_range = row.has_range;
+      has_location = row.has_location;
       body = row.body;
       closes = row.closes;
     }
@@ -75,8 +80,8 @@ row_value row =
 -- all statuses
 abbrev pub statuses : List Status
 statuses =
-    Success ∷ PartialContent ∷ NotModified ∷ BadRequest ∷ NotFound ∷ MethodNotAllowed
-    ∷ RangeNotSatisfiable ∷ HeaderFieldsTooLarge
+    Success ∷ PartialContent ∷ MovedPermanently ∷ NotModified ∷ BadRequest ∷ NotFound
+    ∷ MethodNotAllowed ∷ RangeNotSatisfiable ∷ HeaderFieldsTooLarge
     ∷ NotImplemented ∷ []
 
 -- the status of this code, if there is one

@@ -15,6 +15,8 @@ use Rattle.sws_site.specs.ContentTypes.{media_type_of}
 use Rattle.sws_site.specs.Files.{File}
 use Rattle.sws_site.specs.Loading.{Loads}
 use Rattle.sws_site.specs.BuiltResponses.{IsBuilt}
+use Rattle.sws_site.specs.Folders.{redirects_to, folder_path}
+use Rattle.sws_site.specs.Redirects.{HasRedirect}
 
 -- the name and the contents
 abbrev pub file_of : StoredFile → File
@@ -24,10 +26,12 @@ file_of stored = (stored.name.items, stored.response.body.items)
 abbrev pub files_of : List StoredFile → List File
 files_of stored = map file_of stored
 
--- its heads are those of a site with these options and of this date
-abbrev pub HasHeads : SiteOptions → Option HttpDate → StoredFile → Type 0
-HasHeads options date stored =
-    IsBuilt Success date (media_type_of options stored.name.items) stored.response
+-- its heads are those of a site with these options and of this date, and so is its redirect
+pub record HasHeads (options : SiteOptions) (date : Option HttpDate) (stored : StoredFile)
+    : Type 0 where
+  pub response : IsBuilt Success date (media_type_of options stored.name.items) stored.response
+  pub redirect
+      : HasRedirect (redirects_to options stored.name.items) (folder_path stored.name.items) stored.redirect
 
 -- the heads of all files are
 abbrev pub AllHaveHeads : SiteOptions → Option HttpDate → List StoredFile → Type 0

@@ -5,6 +5,7 @@ use Rattle.sws_site.specs.declared.sites.Site.TheInside.{Inside}
 use Rattle.sws_site.specs.Limits.{IsWithinLimits}
 use Rattle.sws_site.specs.Site.{SiteState}
 use Rattle.sws_site.specs.BuiltResponses.{IsBuilt}
+use Rattle.sws_site.specs.Fixed.{not_found_page}
 use Rattle.sws_site.specs.Refusals.{AreRefusals}
 use Rattle.sws_site.specs.Stored.{files_of, AllHaveHeads, FindsPlaces}
 
@@ -23,4 +24,5 @@ pub record IsStored (site : Inside) : Type 0 where
   pub places : FindsPlaces site.files.items site.places
   pub not_modified : IsBuilt NotModified site.date [] site.not_modified
   pub no_content : site.not_modified.body.items ≡ []
-  pub refusals : AreRefusals site.refusals
+  pub refusals
+      : AreRefusals site.options (not_found_page site.options (files_of site.files.items)) site.refusals

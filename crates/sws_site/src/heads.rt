@@ -8,7 +8,7 @@ use httpdate::HttpDate;
 use sws_parts::{MAX_OWN_HEAD, OwnHead};
 
 /// The most bytes of the media type of a content.
-pub const MAX_MEDIA_TYPE: usize = 32;
+pub const MAX_MEDIA_TYPE: usize = 80;
 
 /// Which part of a file a response is about, as its `Content-Range` says (RFC 9110, section 14.4).
 /// Bytes are counted from 0.

@@ -3,10 +3,12 @@
 //! A site is loaded once from a [`Folder`](sws_link::Folder), within fixed limits: at most 4,096
 //! files, 268,435,456 bytes of contents, and names of 1,024 bytes. All that a response needs is
 //! built then: the two heads of each file, with and without `Connection: close`, those that say
-//! that a file was not modified, and the responses that refuse. So a server answers out of a site
-//! without taking memory and without copying a byte: every head and every body is lent. The head of
-//! a response about a part of a file has numbers of the request in it: [`write_head`] writes it
-//! into a room of its own, and takes no memory either.
+//! that a file was not modified, the responses that refuse, and those that redirect to folders. So a
+//! server answers out of a site without taking memory and without copying a byte: every head and
+//! every body is lent. The head of a response about a part of a file has numbers of the request in
+//! it: [`write_head`] writes it into a room of its own, and takes no memory either.
+//!
+//! [`SiteOptions`] say what a site does beyond a plain one, which [`Site::load`] makes.
 //!
 //! ```text
 //! let site = Site::load(alloc, &mut folder, Some(784111777))?;
@@ -22,6 +24,7 @@
 
 mod built_responses;
 mod content_types;
+mod folders;
 mod head_kinds;
 mod heads;
 mod loading;

@@ -112,10 +112,27 @@ static ARCHIVE_TYPES: [(&[u8], &[u8]); 15] = [
 ];
 
 /// The types of documents.
-static DOCUMENT_TYPES: [(&[u8], &[u8]); 10] = [
+static DOCUMENT_TYPES: [(&[u8], &[u8]); 18] = [
     (b"doc", b"application/msword"),
     (b"xls", b"application/vnd.ms-excel"),
     (b"ppt", b"application/vnd.ms-powerpoint"),
+    (
+        b"docx",
+        b"application/vnd.openxmlformats-officedocument.wordprocessingml.document",
+    ),
+    (
+        b"xlsx",
+        b"application/vnd.openxmlformats-officedocument.spreadsheetml.sheet",
+    ),
+    (
+        b"pptx",
+        b"application/vnd.openxmlformats-officedocument.presentationml.presentation",
+    ),
+    (b"odt", b"application/vnd.oasis.opendocument.text"),
+    (b"ods", b"application/vnd.oasis.opendocument.spreadsheet"),
+    (b"odp", b"application/vnd.oasis.opendocument.presentation"),
+    (b"odg", b"application/vnd.oasis.opendocument.graphics"),
+    (b"kml", b"application/vnd.google-earth.kml+xml"),
     (b"rtf", b"application/rtf"),
     (b"epub", b"application/epub+zip"),
     (b"ai", b"application/postscript"),

@@ -12,6 +12,12 @@ pub struct SiteOptions {
     pub removes_dot_segments: bool,
     /// More extensions of names have a media type of their own.
     pub knows_more_types: bool,
+    /// The file `404.html` at the top of the folder, where there is one, is the content of each
+    /// response that no file has the name.
+    pub sends_not_found_page: bool,
+    /// A path that names a folder with an index, and lacks the slash at its end, is answered by a
+    /// redirect to the path with the slash (RFC 9110, section 15.4.2).
+    pub redirects_to_folders: bool,
 }
 
 impl SiteOptions {
@@ -22,6 +28,8 @@ impl SiteOptions {
         SiteOptions {
             removes_dot_segments: false,
             knows_more_types: false,
+            sends_not_found_page: false,
+            redirects_to_folders: false,
         }
     }
 }

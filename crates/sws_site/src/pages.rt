@@ -1,6 +1,7 @@
 //! One file of a site.
-ghost use Rattle.std.specs.Prelude.{◌≡◌, ◌≤◌, Option, length};
+ghost use Rattle.std.specs.Prelude.{◌≡◌, ◌≤◌, Option, length, option_map};
 ghost use Rattle.sws_site.specs.ContentTypes.{media_type_of};
+ghost use Rattle.sws_site.specs.Folders.{redirect_of};
 ghost use Rattle.sws_site.specs.Limits.{size_limit};
 ghost use Rattle.sws_site.specs.Site.{page_head};
 
@@ -60,5 +61,18 @@ impl<'s> Page<'s> {
             return self.file.response.head(kind.closes);
         }
         self.not_modified.head(kind.closes)
+    }
+
+    /// The head and the body of the response that redirects to the folder whose index this file is,
+    /// where the site does so: the file is named `NAME/index.html`, and `NAME` is not empty and
+    /// begins with no slash.
+    pub fn redirect(&self, closes: bool) -> Option<(&'s [u8], &'s [u8])>
+        ensures { option_map (λ parts. (parts.0.now, parts.1.now)) result
+            ≡ redirect_of self.now closes }
+    {
+        match &self.file.redirect {
+            Some(response) => Some((response.head(closes), &response.body)),
+            None => None,
+        }
     }
 }

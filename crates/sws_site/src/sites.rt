@@ -2,12 +2,12 @@
 ghost use Rattle.std.specs.Prelude.{◌≡◌, ◌<◌, ◌≤◌, length, slice_get, option_map, Err, IfOk, IfSome, IsTrue, Some, None};
 ghost use Rattle.sws_link.specs.Counts.{HasCause};
 ghost use Rattle.httpdate.specs.declared.date.HttpDate.{HttpDate as Date};
-ghost use Rattle.sws_site.specs.Fixed.{is_fixed, fixed_head, fixed_body, IsFixed, IsFixedHead, IsFixedBody};
+ghost use Rattle.sws_site.specs.Fixed.{is_fixed, not_found_page, refusal_head, refusal_body, IsFixed, IsFixedHead, IsFixedBody};
 ghost use Rattle.sws_site.specs.Limits.{IsWithinLimits};
 ghost use Rattle.sws_site.specs.Options.{plain_options};
 ghost use Rattle.sws_site.specs.Site.{found_in, last_second, IsDateAt};
 ghost use Rattle.sws_site.specs.Loading.{IsInitialFolder, LoadsSite, IsSameFolder};
-ghost use Rattle.sws_site.specs.Stored.{FindsPlaces, files_of, AllHaveHeads};
+ghost use Rattle.sws_site.specs.Stored.{FindsPlaces, file_of, files_of, AllHaveHeads};
 
 use crate::built_responses::BuiltResponse;
 use crate::loading::read_files;
@@ -73,6 +73,26 @@ fn find_places(alloc: Global, files: &[StoredFile]) -> Result<BTreeMap<Vec<u8>, 
         places.insert(name, start)?;
     }
     Ok(places)
+}
+
+/// The page of a site with these options for names that no file has, if it has one.
+fn not_found_page<'f>(
+    options: SiteOptions,
+    files: &'f [StoredFile],
+    places: &BTreeMap<Vec<u8>, usize>,
+) -> Option<&'f StoredFile>
+    requires { FindsPlaces files.now places.now }
+    ensures { option_map (λ file. file_of file.now) result
+        ≡ not_found_page options (files_of files.now) }
+{
+    if !options.sends_not_found_page {
+        return None;
+    }
+    let name: &[u8] = b"404.html";
+    match places.get(name) {
+        Some(place) => Some(&files[*place]),
+        None => None,
+    }
 }
 
 impl Site {
@@ -150,7 +170,7 @@ impl Site {
             b"",
             Vec::new(alloc),
         )?;
-        let refusals = Refusals::new(alloc)?;
+        let refusals = Refusals::new(alloc, options, not_found_page(options, &files, &places))?;
         Ok(Site {
             files,
             places,
@@ -177,14 +197,15 @@ impl Site {
         }
     }
 
-    /// The head and the body of the response of this status that is the same for each site.
+    /// The head and the body of the response of this status that is the same whatever is asked for:
+    /// the body is a line that tells the status, or, of 404, the page of the site for that.
     ///
-    /// `status` is one whose content tells the status, and that is about no part of a file: all
-    /// that refuse, but for 416.
+    /// `status` is one whose content tells the status, and that is about no part of a file and no
+    /// other place: all that refuse, but for 416.
     pub fn refusal(&self, status: Status, closes: bool) -> (&[u8], &[u8])
         requires { IsTrue (is_fixed status) }
-        ensures head { result.0.now ≡ fixed_head status closes }
-        ensures body { result.1.now ≡ fixed_body status }
+        ensures head { result.0.now ≡ refusal_head self.now status closes }
+        ensures body { result.1.now ≡ refusal_body self.now status }
     {
         let response = self.refusals.of(status);
         (response.head(closes), &response.body)
@@ -195,8 +216,8 @@ impl Site {
     /// `code` is 400, 404, 405, 431 or 501.
     pub fn fixed(&self, code: u16, closes: bool) -> (&[u8], &[u8])
         requires { IsFixed code }
-        ensures head { IsFixedHead code closes result.0.now }
-        ensures body { IsFixedBody code result.1.now }
+        ensures head { IsFixedHead self.now code closes result.0.now }
+        ensures body { IsFixedBody self.now code result.1.now }
     {
         match code {
             400 => self.refusal(Status::BadRequest, closes),

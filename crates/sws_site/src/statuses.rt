@@ -9,6 +9,8 @@ pub enum Status {
     Success,
     /// 206: the part of the file is sent that the request asks for.
     PartialContent,
+    /// 301: the path names a folder, whose path has a slash at its end.
+    MovedPermanently,
     /// 304: the file was not modified since the date that the request names.
     NotModified,
     /// 400: what came is not a request that can be answered.
@@ -51,6 +53,8 @@ pub struct StatusRow {
     pub lists_methods: bool,
     /// The head says which part of the file is sent, or that the file has none such.
     pub has_range: bool,
+    /// The head says where what is asked for is to be found.
+    pub has_location: bool,
     /// What the content is.
     pub body: Body,
     /// The connection ends with the response, whatever the request says.
@@ -67,6 +71,7 @@ fn plain(code: u16, text: &'static [u8]) -> StatusRow
         is_dated: false,
         lists_methods: false,
         has_range: false,
+        has_location: false,
         body: Body::StatusText,
         closes: false,
     }
@@ -88,6 +93,10 @@ impl Status {
                 has_range: true,
                 body: Body::PartOfFile,
                 ..plain(206, b"206 Partial Content")
+            },
+            Status::MovedPermanently => StatusRow {
+                has_location: true,
+                ..plain(301, b"301 Moved Permanently")
             },
             Status::NotModified => StatusRow {
                 is_dated: true,

@@ -4,6 +4,7 @@ ghost use Rattle.sws_site.specs.Stored.{HasHeads, file_of};
 
 use crate::built_responses::BuiltResponse;
 use crate::content_types::media_type_of;
+use crate::folders::redirect;
 use crate::options::SiteOptions;
 use crate::statuses::Status;
 use httpdate::HttpDate;
@@ -14,6 +15,8 @@ use std::alloc::{AllocError, Global};
 pub(crate) struct StoredFile {
     pub(crate) name: Vec<u8>,
     pub(crate) response: BuiltResponse,
+    /// The response that redirects to the folder whose index the file is, where the site does so.
+    pub(crate) redirect: Option<BuiltResponse>,
 }
 
 impl StoredFile {
@@ -30,7 +33,12 @@ impl StoredFile {
     {
         let media_type = media_type_of(options, name);
         let response = BuiltResponse::new(alloc, Status::Success, date, media_type, contents)?;
+        let redirect = redirect(alloc, options, name)?;
         let name = Vec::from_slice(alloc, name)?;
-        Ok(StoredFile { name, response })
+        Ok(StoredFile {
+            name,
+            response,
+            redirect,
+        })
     }
 }

@@ -20,9 +20,9 @@ use Rattle.sws_link.specs.declared.Opened.TheVariants as opened
 use Rattle.sws_link.specs.declared.Sink.{Ghosts as SinkWords}
 use Rattle.sws_link.specs.declared.world.World.{Ghosts as WorldWords}
 use Rattle.sws_steps.specs.declared.talk.Talk.{Ghosts as TalkWords}
-use Rattle.sws_engine.specs.declared.ended.Ended.{Ended}
-use Rattle.sws_engine.specs.declared.ended.Verdict.{Verdict}
-use Rattle.sws_engine.specs.declared.ended.Verdict.TheVariants as verdict
+use Rattle.sws_handlers.specs.declared.ended.Ended.{Ended}
+use Rattle.sws_handlers.specs.declared.ended.Verdict.{Verdict}
+use Rattle.sws_handlers.specs.declared.ended.Verdict.TheVariants as verdict
 use Rattle.sws_replay.specs.declared.fault.RunFault.{RunFault}
 use Rattle.sws_replay.specs.declared.fault.RunFault.TheVariants as run_fault
 use Rattle.sws_script.proofs.AnswerLemmas.{no_fault, no_many}

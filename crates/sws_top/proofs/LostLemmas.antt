@@ -7,7 +7,7 @@ use Rattle.sws_link.specs.declared.Link.{Ghosts as LinkWords}
 use Rattle.sws_link.specs.declared.Sink.{Ghosts as SinkWords}
 use Rattle.sws_link.specs.declared.world.World.{Ghosts as WorldWords}
 use Rattle.sws_steps.specs.declared.talk.Talk.{Ghosts as TalkWords}
-use Rattle.sws_engine.specs.declared.ended.Ended.{Ended}
+use Rattle.sws_handlers.specs.declared.ended.Ended.{Ended}
 use Rattle.sws_site.specs.Site.{SiteState}
 use Rattle.sws_gopher.specs.Menus.{Place, place_of}
 use Rattle.sws_words.specs.Orders.{Order, answer, replay, serve, bench, check, gopher}

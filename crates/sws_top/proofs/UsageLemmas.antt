@@ -13,9 +13,9 @@ use Rattle.sws_link.specs.declared.Opened.TheVariants as opened
 use Rattle.sws_link.specs.declared.Sink.{Ghosts as SinkWords}
 use Rattle.sws_link.specs.declared.world.World.{Ghosts as WorldWords}
 use Rattle.sws_steps.specs.declared.talk.Talk.{Ghosts as TalkWords}
-use Rattle.sws_engine.specs.declared.ended.Served.{Served}
-use Rattle.sws_engine.specs.declared.ended.Verdict.{Verdict}
-use Rattle.sws_engine.specs.declared.ended.Verdict.TheVariants as verdict
+use Rattle.sws_handlers.specs.declared.ended.Served.{Served}
+use Rattle.sws_handlers.specs.declared.ended.Verdict.{Verdict}
+use Rattle.sws_handlers.specs.declared.ended.Verdict.TheVariants as verdict
 use Rattle.sws_gopher.specs.Menus.{Place}
 use Rattle.sws_log.specs.declared.line.LogLine.{LogLine}
 use Rattle.sws_replay.specs.declared.fault.RunFault.{RunFault}

@@ -5,8 +5,8 @@ use Rattle.sws_link.specs.declared.Folder.{Ghosts as FolderWords}
 use Rattle.sws_link.specs.declared.Source.{Ghosts as SourceWords}
 use Rattle.sws_link.specs.declared.Sink.{Ghosts as SinkWords}
 use Rattle.sws_link.specs.declared.world.World.{Ghosts as WorldWords}
-use Rattle.sws_engine.specs.declared.ended.Ended.{Ended}
-use Rattle.sws_engine.specs.declared.ended.Verdict.TheVariants as verdict
+use Rattle.sws_handlers.specs.declared.ended.Ended.{Ended}
+use Rattle.sws_handlers.specs.declared.ended.Verdict.TheVariants as verdict
 use Rattle.sws_script.specs.Grammar.{Spells}
 use Rattle.sws_link.specs.Limits.{conn_limit}
 use Rattle.sws_script.specs.declared.input.Input.{Input}

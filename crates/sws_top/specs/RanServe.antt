@@ -12,11 +12,11 @@ use Rattle.sws_link.specs.declared.world.World.{Ghosts as WorldWords}
 use Rattle.sws_steps.specs.declared.End.{End}
 use Rattle.sws_steps.specs.declared.End.TheVariants as ending
 use Rattle.sws_steps.specs.declared.talk.Talk.{Ghosts as TalkWords}
-use Rattle.sws_engine.specs.ServerLeaves.{ServerLeaves}
-use Rattle.sws_engine.specs.declared.ended.Ended.{Ended}
-use Rattle.sws_engine.specs.declared.ended.Served.{Served}
-use Rattle.sws_engine.specs.declared.ended.Verdict.{Verdict}
-use Rattle.sws_engine.specs.declared.ended.Verdict.TheVariants as verdict
+use Rattle.sws_weave.specs.ServerLeaves.{ServerLeaves}
+use Rattle.sws_handlers.specs.declared.ended.Ended.{Ended}
+use Rattle.sws_handlers.specs.declared.ended.Served.{Served}
+use Rattle.sws_handlers.specs.declared.ended.Verdict.{Verdict}
+use Rattle.sws_handlers.specs.declared.ended.Verdict.TheVariants as verdict
 use Rattle.sws_log.specs.Lines.{log_text}
 use Rattle.sws_log.specs.declared.line.LogLine.{LogLine}
 use Rattle.sws_report.specs.Summary.{summary}

@@ -12,30 +12,29 @@ mod stress;
 mod wanting;
 
 use example_counting::{Tally, initial_states};
-use mely_event::{Colour, Event, Fits, Handlers, Kept, Trail};
+use mely_event::{Colour, Event, Fits, Handlers, Kept, Memory, Trail};
 use mely_fleet::{Fleet, Passes};
 use mely_history::{Setup, Shape};
 use std::alloc::Global;
-use std::test::Fail;
 
 /// The event of all rows.
 const EVENT: Event = Event { handler: 0, arg: 0 };
 
 /// A setup with one handler of this weight.
-fn setup_of(shape: &Shape, colours: u16, weight: u32) -> Result<Setup, Fail>
+fn setup_of(shape: &Shape, colours: u16, weight: u32) -> Result<Setup, Memory>
     ensures { IfOk result (λ setup. IsRow shape.now.cores colours setup) }
 {
     let Ok(handlers) = Handlers::new(&[(weight, 1)]) else {
-        return Err(Fail::from("no table"));
+        return Err(Memory);
     };
     match Setup::new(shape, u32::from(colours), handlers, 0) {
         Ok(setup) => Ok(setup),
-        Err(_) => Err(Fail::from("no setup")),
+        Err(_) => Err(Memory),
     }
 }
 
 /// The same, with histories that are listed.
-fn listed_setup_of(shape: &Shape, colours: u16, weight: u32) -> Result<Setup, Fail>
+fn listed_setup_of(shape: &Shape, colours: u16, weight: u32) -> Result<Setup, Memory>
     ensures { IfOk result (λ setup. IsRow shape.now.cores colours setup) }
 {
     Ok(setup_of(shape, colours, weight)?.listed())
@@ -47,7 +46,7 @@ fn fleet_of(
     setup: &Setup,
     colours: u16,
     outsiders: u16,
-) -> Result<(Fleet<Tally, u8>, Vec<Passes<Tally, u8>>), Fail>
+) -> Result<(Fleet<Tally, u8>, Vec<Passes<Tally, u8>>), Memory>
     requires colours { colours_of setup.now ≡ colours }
     requires few { (shape_of setup.now).cores + outsiders ≤ 65535 }
     ensures { let callers = (shape_of setup.now).cores + outsiders in IfOk result (λ opened.
@@ -55,10 +54,10 @@ fn fleet_of(
         opened.0 opened.1.items) }
 {
     let Ok(states) = initial_states(alloc, colours) else {
-        return Err(Fail::from("no states"));
+        return Err(Memory);
     };
     match Fleet::new(alloc, setup, states, outsiders) {
         Ok(opened) => Ok(opened),
-        Err(_) => Err(Fail::from("no fleet")),
+        Err(_) => Err(Memory),
     }
 }

@@ -13,9 +13,7 @@ mod scripts;
 mod serving;
 
 use std::alloc::{AllocError, Global};
-use std::process::Abort;
 use std::sync::Wait;
-use std::test::Fail;
 use std::thread::Threads;
 use sws_link::{
     Folder, MemFolder, MemSink, MemSource, Sink, Source, SureFolder, SureSink, SureSource,
@@ -38,18 +36,14 @@ struct Said {
 }
 
 impl Said {
-    /// The run is done, and has written this.
-    fn is_done(&self, rt: &impl Abort, row: &str, written: &[u8]) {
-        assert!(rt; self.fault == None, "{row}");
-        assert!(rt; self.status == 0, "{row}");
-        assert!(rt; self.written.as_slice() == written, "{row}");
+    /// Whether the run is done, and has written this.
+    fn is_done(&self, written: &[u8]) -> bool {
+        self.fault == None && self.status == 0 && self.written.as_slice() == written
     }
 
-    /// The run has ended by this fault, and has written nothing.
-    fn is_refused(&self, rt: &impl Abort, row: &str, status: u8, fault: TopFault) {
-        assert!(rt; self.fault == Some(fault), "{row}");
-        assert!(rt; self.status == status, "{row}");
-        assert!(rt; self.written.len() == 0, "{row}");
+    /// Whether the run has ended by this fault, and has written nothing.
+    fn is_refused(&self, status: u8, fault: TopFault) -> bool {
+        self.fault == Some(fault) && self.status == status && self.written.is_empty()
     }
 }
 
@@ -69,46 +63,59 @@ const NO_CALL: Failing = Failing {
 };
 
 /// Puts the text behind the bytes so many times, with CR LF for each `~`.
-fn put(bytes: &mut Vec<u8>, text: &str, times: usize) -> Result<(), AllocError> {
+fn put(bytes: &mut Vec<u8>, alloc: Global, text: &str, times: usize) -> Result<(), AllocError> {
+    let piece = text.replace(alloc, '~', "\r\n")?;
     for _ in 0..times {
-        for byte in text.as_bytes() {
-            match *byte {
-                b'~' => bytes.extend_from_slice(b"\r\n")?,
-                byte => bytes.push(byte)?,
-            }
-        }
+        bytes.extend_from_slice(piece.as_bytes())?;
     }
     Ok(())
 }
 
-/// The bytes of a text, with CR LF for each `~`.
-fn bytes_of(alloc: Global, text: &str) -> Result<Vec<u8>, AllocError> {
+/// A text, with CR LF for each `~`, and how often it stands one behind another.
+type Piece = (&'static str, usize);
+
+/// The bytes of these pieces.
+fn bytes_of(alloc: Global, pieces: &[Piece]) -> Result<Vec<u8>, AllocError> {
     let mut bytes = Vec::new(alloc);
-    put(&mut bytes, text, 1)?;
+    for &(text, times) in pieces {
+        put(&mut bytes, alloc, text, times)?;
+    }
     Ok(bytes)
 }
 
-fn file(alloc: Global, name: &[u8], bytes: &[u8]) -> Result<(Vec<u8>, Vec<u8>), AllocError> {
-    Ok((name.to_vec(alloc)?, bytes.to_vec(alloc)?))
+/// These bytes, or none where there is no memory.
+fn copied(alloc: Global, bytes: &[u8]) -> Vec<u8> {
+    bytes.to_vec(alloc).unwrap_or(Vec::new(alloc))
+}
+
+/// A file with its name, as a folder takes it.
+fn file(alloc: Global, name: &[u8], bytes: &[u8]) -> (Vec<u8>, Vec<u8>) {
+    (copied(alloc, name), copied(alloc, bytes))
 }
 
 /// An index, a text in a folder, and an empty style sheet.
+static FILES: [(&[u8], &[u8]); 3] = [
+    (b"index.html", b"hi\n"),
+    (b"a/b.txt", b"0123456789"),
+    (b"empty.css", b""),
+];
+
+/// The files of the small site.
 fn small_files(alloc: Global) -> Result<Vec<(Vec<u8>, Vec<u8>)>, AllocError> {
     let mut files = Vec::new(alloc);
-    files.push(file(alloc, b"index.html", b"hi\n")?)?;
-    files.push(file(alloc, b"a/b.txt", b"0123456789")?)?;
-    files.push(file(alloc, b"empty.css", b"")?)?;
+    for &(name, bytes) in &FILES {
+        files.push(file(alloc, name, bytes))?;
+    }
     Ok(files)
 }
 
 /// The words of a line, which stand one space apart.
 fn words_of(alloc: Global, line: &str) -> Result<Vec<String>, AllocError> {
     let mut words = Vec::new(alloc);
-    if line.is_empty() {
-        return Ok(words);
-    }
     for word in line.split(' ') {
-        words.push(String::from_str(alloc, word)?)?;
+        if !word.is_empty() {
+            words.push(String::from_str(alloc, word)?)?;
+        }
     }
     Ok(words)
 }
@@ -178,6 +185,13 @@ fn say<T: AllocGlobal + Threads + Wait + Sync>(
     say_on(rt, line, small_files(rt.alloc())?, input)
 }
 
+/// A list of the one call of this number, or of none where there is no memory.
+fn one_call(alloc: Global, number: u32) -> Vec<u32> {
+    let mut calls = Vec::new(alloc);
+    let _ = calls.push(number);
+    calls
+}
+
 /// Runs these words on the small site, where these calls fail.
 fn say_failing<T: AllocGlobal + Threads + Wait + Sync>(
     rt: &T,
@@ -187,9 +201,9 @@ fn say_failing<T: AllocGlobal + Threads + Wait + Sync>(
 ) -> Result<Said, AllocError> {
     let alloc = rt.alloc();
     let files = small_files(alloc)?;
-    let mut folder = MemFolder::new(alloc, files, vec![in alloc; failing.folder]?);
-    let mut source = MemSource::new(input, vec![in alloc; failing.source]?);
-    let mut sink = MemSink::new(alloc, vec![in alloc; failing.sink]?);
+    let mut folder = MemFolder::new(alloc, files, one_call(alloc, failing.folder));
+    let mut source = MemSource::new(input, one_call(alloc, failing.source));
+    let mut sink = MemSink::new(alloc, one_call(alloc, failing.sink));
     let (status, fault) = end_of(rt, line, &mut folder, &mut source, &mut sink)?;
     Ok(Said {
         status,
@@ -198,31 +212,77 @@ fn say_failing<T: AllocGlobal + Threads + Wait + Sync>(
     })
 }
 
+/// Whether these words are done on the small site with an input of these pieces, and write these.
+fn is_answered<T: AllocGlobal + Threads + Wait + Sync>(
+    rt: &T,
+    line: &str,
+    input: &[Piece],
+    answer: &[Piece],
+) -> Result<bool, AllocError> {
+    let said = say(rt, line, bytes_of(rt.alloc(), input)?)?;
+    Ok(said.is_done(&bytes_of(rt.alloc(), answer)?))
+}
+
+/// Whether these words are done on the small site with this input, and write this.
+fn is_written<T: AllocGlobal + Threads + Wait + Sync>(
+    rt: &T,
+    line: &str,
+    input: &[u8],
+    written: &[u8],
+) -> Result<bool, AllocError> {
+    Ok(say(rt, line, input.to_vec(rt.alloc())?)?.is_done(written))
+}
+
+/// Whether these words end on the small site with this input by this fault, and write nothing.
+fn is_refused<T: AllocGlobal + Threads + Wait + Sync>(
+    rt: &T,
+    line: &str,
+    input: &[u8],
+    status: u8,
+    fault: TopFault,
+) -> Result<bool, AllocError> {
+    Ok(say(rt, line, input.to_vec(rt.alloc())?)?.is_refused(status, fault))
+}
+
+/// Whether these words, of the command `check`, accept this journal.
+fn is_accepted<T: AllocGlobal + Threads + Wait + Sync>(
+    rt: &T,
+    line: &str,
+    journal: &[u8],
+) -> Result<bool, AllocError> {
+    let said = say(rt, line, journal.to_vec(rt.alloc())?)?;
+    Ok(said.fault == None && said.status == 0 && said.written.starts_with(b"accepted "))
+}
+
+/// Lines of words that no command has.
+static NO_COMMANDS: [&str; 18] = [
+    "",
+    "answer",
+    "frob S",
+    "answer -x",
+    "answer S T",
+    "answer S --date yesterday",
+    "answer S --date 253402300800",
+    "replay",
+    "replay S --workers 65",
+    "replay S --workers 1 --workers 1",
+    "serve S --port 8080",
+    "bench 1",
+    "check",
+    "check S --connections 1",
+    "check --connections 1025",
+    "gopher S --host -x --port 70",
+    "gopher S --host=-x --port 70",
+    "gopher S --host h --port 70 --connections 1 --journal",
+];
+
 #[test]
-fn words_out_of_the_grammar_are_refused(rt: HostRuntime) -> Result<(), Fail> {
-    let rows = [
-        "",
-        "answer",
-        "frob S",
-        "answer -x",
-        "answer S T",
-        "answer S --date yesterday",
-        "answer S --date 253402300800",
-        "replay",
-        "replay S --workers 65",
-        "replay S --workers 1 --workers 1",
-        "serve S --port 8080",
-        "bench 1",
-        "check",
-        "check S --connections 1",
-        "check --connections 1025",
-        "gopher S --host -x --port 70",
-        "gopher S --host=-x --port 70",
-        "gopher S --host h --port 70 --connections 1 --journal",
-    ];
-    for line in rows {
-        let said = say(&rt, line, bytes_of(rt.alloc(), INDEX)?)?;
-        said.is_refused(&rt, line, 2, TopFault::Usage);
+fn words_out_of_the_grammar_are_refused(rt: HostRuntime) {
+    let input = b"GET / HTTP/1.1\r\nHost: x\r\n\r\n";
+    for &line in &NO_COMMANDS {
+        assert!(rt;
+            is_refused(&rt, line, input, 2, TopFault::Usage) == Ok(true),
+            "{line}"
+        );
     }
-    Ok(())
 }

@@ -19,13 +19,13 @@ use Rattle.mely_cause.proofs.SerialLawLemmas.{by_one}
 use Rattle.sws_link.specs.declared.Link.{Ghosts as LinkWords}
 use Rattle.sws_link.specs.declared.world.World.{Ghosts as WorldWords}
 use Rattle.sws_steps.specs.declared.talk.Talk.{Ghosts as TalkWords}
-use Rattle.sws_engine.specs.declared.load.Load.{Load}
-use Rattle.sws_engine.specs.declared.place.Frame.{Frame}
-use Rattle.sws_engine.specs.Place.{PlaceState}
-use Rattle.sws_engine.specs.Loads.{Fit, at_first}
-use Rattle.sws_engine.specs.Handling.{Put, Runs}
-use Rattle.sws_engine.specs.RunStands.{RunStands}
-use Rattle.sws_engine.proofs.Runs.RunKeepsLemmas.{run_keeps}
+use Rattle.sws_handlers.specs.declared.load.Load.{Load}
+use Rattle.sws_handlers.specs.declared.place.Frame.{Frame}
+use Rattle.sws_handlers.specs.Place.{PlaceState}
+use Rattle.sws_handlers.specs.Loads.{Fit, at_first}
+use Rattle.sws_handlers.specs.Handling.{Put, Runs}
+use Rattle.sws_weave.specs.RunStands.{RunStands}
+use Rattle.sws_weave.proofs.Runs.RunKeepsLemmas.{run_keeps}
 
 -- ---- lists
 

@@ -24,18 +24,18 @@ use Rattle.mely_order.specs.Stream.{Stream, HandlerServes, numbers_put}
 use Rattle.sws_link.specs.declared.Link.{Ghosts as LinkWords}
 use Rattle.sws_link.specs.declared.world.World.{Ghosts as WorldWords}
 use Rattle.sws_steps.specs.declared.talk.Talk.{Ghosts as TalkWords}
-use Rattle.sws_engine.specs.declared.load.Load.{Load}
-use Rattle.sws_engine.specs.declared.place.Frame.{Frame}
-use Rattle.sws_engine.specs.Counting.{colours_over}
+use Rattle.sws_handlers.specs.declared.load.Load.{Load}
+use Rattle.sws_handlers.specs.declared.place.Frame.{Frame}
+use Rattle.sws_handlers.specs.Counting.{colours_over}
 use Rattle.sws_engine.specs.CrewLeaves.{first_put}
-use Rattle.sws_engine.specs.Handling.{Put, Runs}
-use Rattle.sws_engine.specs.Initial.{AreInitialPlacesOver, initial_load}
-use Rattle.sws_engine.specs.Loads.{Fit, at_first}
-use Rattle.sws_engine.specs.LogStream.{log_stream}
-use Rattle.sws_engine.specs.LogTurns.{turns_of}
-use Rattle.sws_engine.specs.Place.{PlaceState}
-use Rattle.sws_engine.specs.RunStands.{at_seat}
-use Rattle.sws_engine.proofs.Runs.LogOrderLemmas.{begins_in_order, first_is_no_line, handler_serves}
+use Rattle.sws_handlers.specs.Handling.{Put, Runs}
+use Rattle.sws_handlers.specs.Initial.{AreInitialPlacesOver, initial_load}
+use Rattle.sws_handlers.specs.Loads.{Fit, at_first}
+use Rattle.sws_weave.specs.LogStream.{log_stream}
+use Rattle.sws_handlers.specs.LogTurns.{turns_of}
+use Rattle.sws_handlers.specs.Place.{PlaceState}
+use Rattle.sws_weave.specs.RunStands.{at_seat}
+use Rattle.sws_weave.proofs.Runs.LogOrderLemmas.{begins_in_order, first_is_no_line, handler_serves}
 use Rattle.sws_engine.proofs.Crews.StreamCameLemmas.{ServesAt, all_received, silent_runs}
 
 module _ {W L T G H R : Type 0} (x : WorldWords W L) (l : LinkWords L) (y : TalkWords T L G H) (t : TrailWords (PlaceState H W T) (Frame H W)) (fits : Frame H W → Colour → Event → Option (Load W L) → Type 0) (z : AppWords R (Load W L) (PlaceState H W T) (Frame H W)) (app : R)

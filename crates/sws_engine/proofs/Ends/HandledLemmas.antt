@@ -25,15 +25,16 @@ use Rattle.mely_worker.specs.Worker.{WorkerState}
 use Rattle.sws_link.specs.declared.Link.{Ghosts as LinkWords}
 use Rattle.sws_link.specs.declared.world.World.{Ghosts as WorldWords}
 use Rattle.sws_steps.specs.declared.talk.Talk.{Ghosts as TalkWords}
-use Rattle.sws_engine.specs.declared.load.Load.{Load}
-use Rattle.sws_engine.specs.declared.place.Frame.{Frame}
-use Rattle.sws_engine.specs.Counting.{colours_over}
+use Rattle.sws_handlers.specs.declared.load.Load.{Load}
+use Rattle.sws_handlers.specs.declared.place.Frame.{Frame}
+use Rattle.sws_handlers.specs.Counting.{colours_over}
 use Rattle.sws_engine.specs.CrewLeaves.{IsAccountedBy, HandlersRan, IsServerRun, count_on, first_put}
-use Rattle.sws_engine.specs.Handling.{Put, Runs}
-use Rattle.sws_engine.specs.Initial.{first_poll}
-use Rattle.sws_engine.specs.Loads.{FitsTold}
-use Rattle.sws_engine.specs.Place.{PlaceState}
-use Rattle.sws_engine.proofs.Events.WaitingListsLemmas.{each_weaker}
+use Rattle.sws_handlers.specs.Handling.{Put, Runs}
+use Rattle.sws_handlers.specs.Initial.{first_poll}
+use Rattle.sws_handlers.specs.Loads.{FitsTold}
+use Rattle.sws_handlers.specs.Place.{PlaceState}
+use Rattle.sws_handlers.proofs.Events.WaitingListsLemmas.{each_weaker}
+use Rattle.sws_weave.proofs.Ends.PassedLemmas.{free_count}
 
 -- an app accounts for a weave, where the event that was posted is this one
 pub accounted_by : {R S P F : Type 0} (t : TrailWords S F) (fits : F → Colour → Event → Option P → Type 0) (a : AppWords R P S F) (total_of : R → ℕ) (log_of : R → Bool) (total : ℕ) (log : Bool) (colour : Colour) (carried : Option P) (weave : WeaveState S P) (app : R) (event first : Event)
@@ -54,14 +55,6 @@ free_left (Picked mark victim) free = cc
 free_left (Landing mark) free = cc
 free_left (Pushing core mark) free = cc
 free_left (Turning turn hand puts) free = cc
-
-free_count : {S P F : Type 0} (t : TrailWords S F) (c : Colour) (number : List Event → Event → ℕ) (phase : Phase S P) → is_free phase ≡ true → count_left t c number phase ≡ 0
-free_count t c number (Free place) free = refl
-free_count t c number (Popped mark) free = cc
-free_count t c number (Picked mark victim) free = cc
-free_count t c number (Landing mark) free = cc
-free_count t c number (Pushing core mark) free = cc
-free_count t c number (Turning turn hand puts) free = cc
 
 -- what they have put and not registered was refused
 due_lost : {S P : Type 0} (c : Colour) (number : Event → ℕ) (ws : List (WorkerState S P)) → ((i : ℕ) (w : WorkerState S P) → slice_get ws i ≡ Some w → is_free w.phase ≡ true)

@@ -22,22 +22,22 @@ use Rattle.mely_tally.specs.Tells.{IsTakenApart}
 use Rattle.sws_link.specs.declared.Link.{Ghosts as LinkWords}
 use Rattle.sws_link.specs.declared.world.World.{Ghosts as WorldWords}
 use Rattle.sws_steps.specs.declared.talk.Talk.{Ghosts as TalkWords}
-use Rattle.sws_engine.specs.declared.ended.Ended.{Ended}
-use Rattle.sws_engine.specs.declared.load.Load.{Load}
-use Rattle.sws_engine.specs.declared.place.Frame.{Frame}
-use Rattle.sws_engine.specs.declared.place.Role.{Role}
-use Rattle.sws_engine.specs.declared.place.Role.TheVariants.{Polling, Accepting, Talking, Logging}
-use Rattle.sws_engine.specs.Place.{PlaceState}
-use Rattle.sws_engine.specs.Invariant.{RoleStands, IsConsistent}
-use Rattle.sws_engine.specs.ServerRun.{server_rules}
-use Rattle.sws_engine.specs.RunFits.{RunFits}
-use Rattle.sws_engine.specs.Counting.{colours_over}
-use Rattle.sws_engine.specs.RunLeaves.{StateTells}
-use Rattle.sws_engine.specs.Conclusion.{IsConcluded}
-use Rattle.sws_engine.specs.PartsKept.{IsPlacedAs, PartsKept}
-use Rattle.sws_engine.specs.CrewEnds.{CrewEnds}
+use Rattle.sws_handlers.specs.declared.ended.Ended.{Ended}
+use Rattle.sws_handlers.specs.declared.load.Load.{Load}
+use Rattle.sws_handlers.specs.declared.place.Frame.{Frame}
+use Rattle.sws_handlers.specs.declared.place.Role.{Role}
+use Rattle.sws_handlers.specs.declared.place.Role.TheVariants.{Polling, Accepting, Talking, Logging}
+use Rattle.sws_handlers.specs.Place.{PlaceState}
+use Rattle.sws_handlers.specs.Invariant.{RoleStands, IsConsistent}
+use Rattle.sws_weave.specs.ServerRun.{server_rules}
+use Rattle.sws_weave.specs.RunFits.{RunFits}
+use Rattle.sws_handlers.specs.Counting.{colours_over}
+use Rattle.sws_handlers.specs.RunLeaves.{StateTells}
+use Rattle.sws_handlers.specs.Conclusion.{IsConcluded}
+use Rattle.sws_weave.specs.PartsKept.{IsPlacedAs, PartsKept}
+use Rattle.sws_weave.specs.CrewEnds.{CrewEnds}
 use Rattle.sws_engine.specs.CrewLeaves.{HandlersRan, HasRunCrew}
-use Rattle.sws_engine.proofs.Ends.HasRunLemmas.{has_run, histories_are, ran_whole}
+use Rattle.sws_weave.proofs.Ends.HasRunLemmas.{has_run, histories_are, ran_whole}
 
 -- what a state keeps says which role it has
 module _ {W L T G H : Type 0} (x : WorldWords W L) (l : LinkWords L) (y : TalkWords T L G H) where

@@ -5,6 +5,7 @@ ghost use Rattle.sws_link.specs.Links.{Reads, Writes, Shuts};
 ghost use Rattle.sws_link.specs.Worlds.{Listens, Polls, Accepts};
 ghost use Rattle.sws_link.specs.MemWorlds.{mem_world_tells};
 
+use super::replaying::Sent;
 use std::sync::atomic::{AtomicU64, Ordering};
 use sws_link::{Accepted, Link, LinkRead, LinkWrite, MemLink, MemWorld, Opened, Polled, World};
 
@@ -12,7 +13,7 @@ use sws_link::{Accepted, Link, LinkRead, LinkWrite, MemLink, MemWorld, Opened, P
 /// nothing.
 #[derive(Drop)]
 pub(super) struct CountedLink<'r> {
-    pub(super) link: MemLink,
+    link: MemLink,
     calls: &'r AtomicU64,
 }
 
@@ -43,6 +44,12 @@ impl Link for CountedLink<'_> {
     fn shut(&mut self) {
         self.calls.fetch_add(1, Ordering::SeqCst);
         self.link.shut();
+    }
+}
+
+impl Sent for CountedLink<'_> {
+    fn sent(&self) -> &[u8] {
+        self.link.written()
     }
 }
 

@@ -1,35 +1,43 @@
 //! A link one of whose calls fails.
-use super::replaying::site;
+use super::replaying::{Part, items_of, site};
 use super::{A, G};
+use std::process::Abort;
 use sws_conn::{End, serve_one};
-use sws_link::{LinkItem, MemLink};
+use sws_link::MemLink;
 
-/// A read, a write of the head, one of the body, and a read that finds the end: whichever of them
-/// fails ends the connection, and what was written stands.
+/// The call that fails, how the connection ends, and how many bytes of its answer it was written. The
+/// calls are a read, a write of the head, one of the body, and a read that finds the end.
+static FAILING: [(u32, End, usize); 5] = [
+    (1, End::Fault, 0),
+    (2, End::Fault, 0),
+    (3, End::Fault, 76),
+    (4, End::Fault, 79),
+    (5, End::Done, 79),
+];
+
+/// Whether a connection whose call of this number fails ends so.
+fn ends_so(rt: &(impl AllocGlobal + Abort), failing: u32, end: End, len: usize) -> bool {
+    let mut calls = Vec::new(rt.alloc());
+    calls.push(failing).expect(rt, "memory");
+    let link = MemLink::new(
+        rt.alloc(),
+        items_of(rt, &[Part::Send(G)]),
+        None,
+        None,
+        calls,
+    );
+    match serve_one(rt.alloc(), &site(rt, None), link) {
+        Ok((link, ended)) => {
+            ended == end && link.is_shut() && A.get(..len) == Some(link.written())
+        }
+        Err(_) => false,
+    }
+}
+
+/// Whichever call fails ends the connection, and what was written stands.
 #[test]
 fn a_call_that_fails_ends_its_connection_with_what_was_written(rt: HostRuntime) {
-    let site = site(&rt, None);
-    let rows = [
-        (1, End::Fault, 0),
-        (2, End::Fault, 0),
-        (3, End::Fault, 76),
-        (4, End::Fault, 79),
-        (5, End::Done, 79),
-    ];
-    for (number, end, len) in rows {
-        let mut items = Vec::new(rt.alloc());
-        let bytes = Vec::from_slice(rt.alloc(), G).expect(&rt, "memory");
-        items.push(LinkItem::Bytes(bytes)).expect(&rt, "memory");
-        let mut failing = Vec::new(rt.alloc());
-        failing.push(number).expect(&rt, "memory");
-        let link = MemLink::new(rt.alloc(), items, None, None, failing);
-        match serve_one(rt.alloc(), &site, link) {
-            Ok((link, ended)) => {
-                assert!(rt; ended == end, "call {number}");
-                assert!(rt; link.is_shut(), "call {number}");
-                assert!(rt; link.written() == &A[..len], "call {number}");
-            }
-            Err(_) => panic!(rt; "no memory"),
-        }
+    for &(failing, end, len) in &FAILING {
+        assert!(rt; ends_so(&rt, failing, end, len), "call {failing}");
     }
 }

@@ -4,15 +4,15 @@ ghost use Rattle.std.specs.List.{AllByRecursion};
 ghost use Rattle.sws_link.specs.MemWorlds.{IsInitialMemLink};
 ghost use Rattle.sws_link.specs.Limits.{conn_limit};
 
-use super::replaying::{links_of, site};
-use super::{ASKS, BEGIN, BOTH, G, PLAIN, Part};
+use super::replaying::{Client, Part, links_of, run, site};
+use super::{ASKS, BEGIN, BOTH, G, PLAIN};
 use mely_event::Handlers;
 use mely_history::{Setup, Shape};
 use std::process::Abort;
 use std::sync::Wait;
 use sws_engine::{Ended, Verdict, serve_steps};
 use sws_link::{MemLink, MemWorld, Put, SureSink, World};
-use sws_log::write_log;
+use sws_log::{LogLine, write_log};
 use sws_site::Site;
 
 /// Runs these links with the log by a schedule, and then until nothing is left.
@@ -38,41 +38,53 @@ fn run_logged<R: AllocGlobal + Abort + Wait>(
     serve_steps(rt, rt.alloc(), site, shape, world, schedule, true, false)
 }
 
-/// The run went well, and left these lines.
-fn has_logged(rt: &(impl AllocGlobal + Abort), ended: &Ended<MemWorld>, expected: &[u8]) {
-    assert!(rt; ended.verdict == Verdict::Ok);
+/// Whether these lines are written so.
+pub(super) fn is_log(rt: &(impl AllocGlobal + Abort), log: &[LogLine], text: &[u8]) -> bool {
     let mut sink = SureSink::new(rt.alloc());
-    assert!(rt; write_log(rt.alloc(), &mut sink, &ended.log) == Put::Done);
-    assert!(rt; sink.written() == expected);
+    write_log(rt.alloc(), &mut sink, log) == Put::Done && sink.written() == text
 }
 
-#[test]
-fn a_whole_answer_has_a_line(rt: HostRuntime) {
-    let site = site(&rt, None);
-    let ended = run_logged(&rt, &site, &PLAIN, links_of(&rt, &[ASKS]), &[]);
-    has_logged(&rt, &ended, b"log 0 1 200 79 /\n");
+/// Whether the run of these clients goes well on this shape, and leaves these lines.
+fn is_logged(
+    rt: &(impl AllocGlobal + Abort + Wait),
+    shape: &Shape,
+    clients: &[Client],
+    lines: &[u8],
+) -> bool {
+    let site = site(rt, None);
+    let ended = run_logged(rt, &site, shape, links_of(rt, clients), &[]);
+    ended.verdict == Verdict::Ok && is_log(rt, &ended.log, lines)
 }
 
-#[test]
-fn an_answer_that_is_cut_has_none(rt: HostRuntime) {
-    let site = site(&rt, None);
-    let links = links_of(&rt, &[(&[Part::Send(G)], None, Some(7)), ASKS]);
-    let ended = run_logged(&rt, &site, &PLAIN, links, &[]);
-    has_logged(&rt, &ended, b"log 1 1 200 79 /\n");
-}
+/// A whole answer has a line, one that is cut has none, and a head that is too long has no target.
+static LOGGED: [(&[Client], &[u8]); 3] = [
+    (&[ASKS], b"log 0 1 200 79 /\n"),
+    (
+        &[(&[Part::Send(G)], None, Some(7)), ASKS],
+        b"log 1 1 200 79 /\n",
+    ),
+    (
+        &[(
+            &[Part::Send(BEGIN), Part::Fill(8162), Part::Send(b"\r\n\r\n")],
+            None,
+            None,
+        )],
+        b"log 0 1 431 162 -\n",
+    ),
+];
 
 #[test]
-fn a_head_that_is_too_long_has_no_target(rt: HostRuntime) {
-    let site = site(&rt, None);
-    let parts = [Part::Send(BEGIN), Part::Fill(8162), Part::Send(b"\r\n\r\n")];
-    let links = links_of(&rt, &[(&parts, None, None)]);
-    let ended = run_logged(&rt, &site, &PLAIN, links, &[]);
-    has_logged(&rt, &ended, b"log 0 1 431 162 -\n");
+fn each_answer_that_is_written_whole_has_a_line(rt: HostRuntime) {
+    for (row, &(clients, lines)) in LOGGED.iter().enumerate() {
+        assert!(rt; is_logged(&rt, &PLAIN, clients, lines), "row {row}");
+    }
 }
+
+/// A client that is answered twice.
+static TWICE: [Client; 1] = [(&[Part::Send(BOTH)], Some(1), None)];
 
 #[test]
 fn the_lines_of_a_connection_are_in_order_on_any_shape(rt: HostRuntime) {
-    let site = site(&rt, None);
     for cores in 1..=4u16 {
         let shape = Shape {
             cores,
@@ -81,18 +93,24 @@ fn the_lines_of_a_connection_are_in_order_on_any_shape(rt: HostRuntime) {
             steal_cost: 20,
             group: 4,
         };
-        let links = links_of(&rt, &[(&[Part::Send(BOTH)], Some(1), None)]);
-        let ended = run_logged(&rt, &site, &shape, links, &[]);
-        has_logged(&rt, &ended, b"log 0 1 200 79 /\nlog 0 2 200 78 /a/b.txt\n");
+        let lines = b"log 0 1 200 79 /\nlog 0 2 200 78 /a/b.txt\n";
+        assert!(rt; is_logged(&rt, &shape, &TWICE, lines), "{cores} workers");
     }
+}
+
+/// Whether a line of a connection is counted where there is no log.
+fn is_counted(rt: &(impl AllocGlobal + Abort + Wait)) -> bool {
+    let site = site(rt, None);
+    let ended = run(rt, &site, &PLAIN, links_of(rt, &[ASKS]), &[]);
+    for served in &ended.served {
+        if served.answered != 1 {
+            return false;
+        }
+    }
+    ended.log.is_empty()
 }
 
 #[test]
 fn lines_are_counted_without_the_log_too(rt: HostRuntime) {
-    let site = site(&rt, None);
-    let ended = super::run(&rt, &site, &PLAIN, links_of(&rt, &[ASKS]), &[]);
-    assert!(rt; ended.log.is_empty());
-    for served in &ended.served {
-        assert!(rt; served.answered == 1);
-    }
+    assert!(rt; is_counted(&rt));
 }

@@ -5,6 +5,7 @@ ghost use Rattle.std.specs.List.{AllByRecursion};
 ghost use Rattle.sws_link.specs.MemWorlds.{IsInitialMemLink};
 ghost use Rattle.sws_link.specs.Limits.{conn_limit};
 
+use super::logged::is_log;
 use super::replaying::{Client, Part, links_of, site};
 use super::{ASKS, BOTH, G, PLAIN};
 use mely_history::{Setup, Shape};
@@ -13,20 +14,20 @@ use std::process::Abort;
 use std::sync::Wait;
 use std::thread::Threads;
 use sws_engine::{Ended, Verdict, handler_table, serve_all};
-use sws_link::{MemLink, MemWorld, Put, SureSink, World};
-use sws_log::{LogLine, write_log};
+use sws_link::{MemLink, MemWorld, World};
+use sws_log::LogLine;
 use sws_site::Site;
 
 /// A client that is answered twice, one that is answered once, and one that is cut off in the middle
 /// of its answer.
-const CLIENTS: [Client; 3] = [
+static CLIENTS: [Client; 3] = [
     (&[Part::Send(BOTH)], Some(1), None),
     ASKS,
     (&[Part::Send(G)], None, Some(7)),
 ];
 
 /// The number of each of them, and its lines.
-const LINES: [(u16, &[u8]); 3] = [
+static LINES: [(u16, &[u8]); 3] = [
     (0, b"log 0 1 200 79 /\nlog 0 2 200 78 /a/b.txt\n"),
     (1, b"log 1 1 200 79 /\n"),
     (2, b""),
@@ -50,35 +51,48 @@ fn serve_logged<R: AllocGlobal + Abort + Threads + Wait + Sync>(
     serve_all(rt, rt.alloc(), site, shape, world, &OpenGate, true, false)
 }
 
-/// The lines of this connection are these.
-fn has_lines(rt: &(impl AllocGlobal + Abort), log: &[LogLine], conn: u16, expected: &[u8]) {
+/// Whether the lines of this connection are these.
+fn has_lines(rt: &(impl AllocGlobal + Abort), log: &[LogLine], conn: u16, lines: &[u8]) -> bool {
     let mut own = Vec::new(rt.alloc());
     for line in log {
         if line.conn == conn {
             own.push(*line).expect(rt, "memory");
         }
     }
-    let mut sink = SureSink::new(rt.alloc());
-    assert!(rt; write_log(rt.alloc(), &mut sink, &own) == Put::Done);
-    assert!(rt; sink.written() == expected);
+    is_log(rt, &own, lines)
+}
+
+/// Whether a log has the lines of each connection.
+fn has_all_lines(rt: &(impl AllocGlobal + Abort), log: &[LogLine]) -> bool {
+    for &(conn, lines) in &LINES {
+        if !has_lines(rt, log, conn, lines) {
+            return false;
+        }
+    }
+    log.len() == 3
+}
+
+/// Whether the clients are served on so many workers and shards, and leave the lines of each.
+fn are_logged<R: AllocGlobal + Abort + Threads + Wait + Sync>(
+    rt: &R,
+    cores: u16,
+    shards: u16,
+) -> bool {
+    let shape = Shape {
+        cores,
+        shards,
+        ..PLAIN
+    };
+    let site = site(rt, None);
+    let ended = serve_logged(rt, &site, &shape, links_of(rt, &CLIENTS));
+    ended.verdict == Verdict::Ok && has_all_lines(rt, &ended.log)
 }
 
 #[test]
 fn the_lines_of_each_connection_are_there_whatever_the_workers_are(rt: HostRuntime) {
-    let site = site(&rt, None);
     for (cores, shards) in [(2, 1), (2, 2), (4, 2), (8, 4)] {
-        let shape = Shape {
-            cores,
-            shards,
-            ..PLAIN
-        };
         for _ in 0..20 {
-            let ended = serve_logged(&rt, &site, &shape, links_of(&rt, &CLIENTS));
-            assert!(rt; ended.verdict == Verdict::Ok);
-            assert!(rt; ended.log.len() == 3);
-            for (conn, expected) in LINES {
-                has_lines(&rt, &ended.log, conn, expected);
-            }
+            assert!(rt; are_logged(&rt, cores, shards), "{cores} and {shards}");
         }
     }
 }

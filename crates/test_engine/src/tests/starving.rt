@@ -5,13 +5,14 @@ ghost use Rattle.sws_link.specs.Links.{Reads, Writes, Shuts};
 ghost use Rattle.sws_link.specs.Worlds.{Listens, Polls, Accepts};
 ghost use Rattle.sws_link.specs.MemWorlds.{mem_world_tells};
 
+use super::replaying::Sent;
 use sws_link::{Accepted, Link, LinkRead, LinkWrite, MemLink, MemWorld, Opened, Polled, World};
 
 /// A link in memory, whose writes all answer that there is no memory where it is to
 /// refuse. It tells nothing.
 #[derive(Drop)]
 pub(super) struct Thrifty {
-    pub(super) link: MemLink,
+    link: MemLink,
     refuses: bool,
 }
 
@@ -42,6 +43,12 @@ impl Link for Thrifty {
 
     fn shut(&mut self) {
         self.link.shut();
+    }
+}
+
+impl Sent for Thrifty {
+    fn sent(&self) -> &[u8] {
+        self.link.written()
     }
 }
 

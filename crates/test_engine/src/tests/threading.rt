@@ -6,11 +6,11 @@ ghost use Rattle.sws_link.specs.MemWorlds.{IsInitialMemLink};
 ghost use Rattle.sws_link.specs.Limits.{conn_limit};
 
 use super::counted::CountedWorld;
-use super::replaying::{Client, Part, entries_of, links_of, printed, site};
+use super::replaying::{Client, Part, are_legal, entries_of, is_printed, links_of, site};
 use super::starving::Starving;
-use super::{A, ASKS, G, PLAIN, THREE};
+use super::{A, ASKS, G, Left, PLAIN, THREE, THREE_SHOWN, have_left};
 use mely_event::{Colour, Event};
-use mely_history::{Entry, History, Judged, Setup, Shape, judge};
+use mely_history::{Entry, History, Setup, Shape};
 use mely_worker::{Gate, OpenGate};
 use std::process::Abort;
 use std::sync::Wait;
@@ -20,12 +20,8 @@ use std::thread::Threads;
 use std::time::Duration;
 use sws_conn::End;
 use sws_engine::{Ended, Verdict, handler_table, serve_all};
-use sws_link::{Link, MemLink, MemWorld, World};
+use sws_link::{MemLink, MemWorld, World};
 use sws_site::Site;
-
-/// What three connections leave: a request for the first file, one for the empty file, and none.
-const THREE_LEAVE: &[u8] =
-    b"conn 0 done 79\n| HTTP/1.1 200 OK~\n| Server: sws~\n| Content-Type: text/html~\n| Content-Length: 3~\n| ~\n| hi\\n\nconn 1 done 75\n| HTTP/1.1 200 OK~\n| Server: sws~\n| Content-Type: text/css~\n| Content-Length: 0~\n| ~\nconn 2 done 0\n";
 
 /// Four workers, and two shards.
 const FOUR: Shape = Shape {
@@ -43,6 +39,8 @@ struct Counting {
 }
 
 impl Gate for Counting {
+    ghost passes = { λ gate core colour event. Unit {0} };
+
     fn pass(&self, _core: u16, _colour: Colour, _event: Event) {
         self.passed.fetch_add(1, Ordering::SeqCst);
     }
@@ -68,6 +66,8 @@ struct Before<'r> {
 }
 
 impl Gate for Before<'_> {
+    ghost passes = { λ gate core colour event. Unit {0} };
+
     fn pass(&self, _core: u16, _colour: Colour, event: Event) {
         if !calls_link(event.handler) {
             return;
@@ -93,6 +93,8 @@ struct Meeting<'r> {
 }
 
 impl Gate for Meeting<'_> {
+    ghost passes = { λ gate core colour event. Unit {0} };
+
     fn pass(&self, _core: u16, colour: Colour, event: Event) {
         self.passed.fetch_add(1, Ordering::SeqCst);
         if event.handler != LOOK {
@@ -138,25 +140,7 @@ fn serve<R: AllocGlobal + Abort + Threads + Wait + Sync, G: Gate + Sync>(
         panic!(rt; "a number of the shape is out of its range");
     };
     let ended = serve_all(rt, rt.alloc(), site, shape, world, gate, false, true);
-    for history in &ended.histories {
-        assert!(rt; judge(&setup, entries_of(rt, history)) == Judged::Legal);
-    }
-    ended
-}
-
-/// Three connections by so many workers and shards, through a gate.
-fn three<R: AllocGlobal + Abort + Threads + Wait + Sync, G: Gate + Sync>(
-    rt: &R,
-    site: &Site,
-    cores: u16,
-    shards: u16,
-    gate: &G,
-) -> Ended<MemWorld> {
-    let ended = serve(rt, site, &shape(cores, shards), links_of(rt, &THREE), gate);
-    assert!(rt; ended.verdict == Verdict::Ok);
-    assert!(rt; ended.world.is_some());
-    assert!(rt; (ended.accepted, ended.failed) == (3, false));
-    assert!(rt; printed(rt, &ended, false).written() == THREE_LEAVE);
+    assert!(rt; are_legal(rt, &setup, &ended.histories));
     ended
 }
 
@@ -173,19 +157,21 @@ fn events_of(rt: &impl Abort, histories: &[History]) -> u64 {
     events
 }
 
-/// How each connection ended, and what it was written.
-type Left<'a> = (End, &'a [u8]);
-
-/// A run of a world in memory left these connections.
-fn have_left(rt: &impl Abort, ended: &Ended<MemWorld>, rows: &[Left]) {
-    assert!(rt; ended.served.len() == rows.len());
-    for (served, (end, written)) in ended.served.iter().zip(rows) {
-        assert!(rt; (served.end, served.stray) == (Some(*end), None));
-        match &served.link {
-            Some(link) => assert!(rt; link.written() == *written),
-            None => panic!(rt; "a link is gone"),
-        }
-    }
+/// How many events are run where three connections are served by so many workers and shards, through
+/// a gate; or nothing where they are not left what they are owed.
+fn events_of_three<R: AllocGlobal + Abort + Threads + Wait + Sync, G: Gate + Sync>(
+    rt: &R,
+    cores: u16,
+    shards: u16,
+    gate: &G,
+) -> Option<u64> {
+    let site = site(rt, None);
+    let ended = serve(rt, &site, &shape(cores, shards), links_of(rt, &THREE), gate);
+    let is_whole = ended.verdict == Verdict::Ok
+        && ended.world.is_some()
+        && (ended.accepted, ended.failed) == (3, false)
+        && is_printed(rt, &ended, false, THREE_SHOWN);
+    is_whole.then_some(events_of(rt, &ended.histories))
 }
 
 /// A run of a world whose link of this number finds no memory, by threads.
@@ -211,104 +197,108 @@ fn starve<R: AllocGlobal + Abort + Threads + Wait + Sync>(
     serve_all(rt, rt.alloc(), &site, shape, world, &OpenGate, false, false)
 }
 
-/// A run of a world whose link of some number found no memory left these connections.
-fn starved_have_left(rt: &impl Abort, ended: &Ended<Starving>, rows: &[Left]) {
-    assert!(rt; ended.served.len() == rows.len());
-    for (served, (end, written)) in ended.served.iter().zip(rows) {
-        assert!(rt; (served.end, served.stray) == (Some(*end), None));
-        match &served.link {
-            Some(held) => assert!(rt; held.link.written() == *written),
-            None => panic!(rt; "a link is gone"),
-        }
-    }
-}
-
 #[test]
 fn three_connections_are_served_so_whatever_the_workers_are(rt: HostRuntime) {
-    let site = site(&rt, None);
     for shards in [1, 4] {
         for cores in [1, 2, 8, 64] {
-            three(&rt, &site, cores, shards, &OpenGate);
+            let events = events_of_three(&rt, cores, shards, &OpenGate);
+            assert!(rt; events.is_some(), "{cores} and {shards}");
         }
     }
 }
 
 #[test]
 fn three_connections_are_served_so_each_time(rt: HostRuntime) {
-    let site = site(&rt, None);
-    for _ in 0..200 {
-        three(&rt, &site, 2, 1, &OpenGate);
+    for time in 0..200 {
+        assert!(rt;
+            events_of_three(&rt, 2, 1, &OpenGate).is_some(),
+            "time {time}"
+        );
     }
+}
+
+/// Whether a gate is passed as often as handlers run.
+fn is_passed_as_often<R: AllocGlobal + Abort + Threads + Wait + Sync>(
+    rt: &R,
+    cores: u16,
+    shards: u16,
+) -> bool {
+    let gate = Counting {
+        passed: AtomicU64::new(0),
+    };
+    let events = events_of_three(rt, cores, shards, &gate);
+    events == Some(gate.passed.load(Ordering::SeqCst))
 }
 
 #[test]
 fn the_gate_is_passed_as_often_as_handlers_run(rt: HostRuntime) {
-    let site = site(&rt, None);
     for cores in [1, 4] {
         for shards in [1, 4] {
-            let gate = Counting {
-                passed: AtomicU64::new(0),
-            };
-            let ended = three(&rt, &site, cores, shards, &gate);
-            assert!(rt; gate.passed.load(Ordering::SeqCst) == events_of(&rt, &ended.histories));
+            assert!(rt;
+                is_passed_as_often(&rt, cores, shards),
+                "{cores} and {shards}"
+            );
         }
     }
 }
 
-/// A run of a world that counts calls left one connection.
-fn counted_has_left(rt: &impl Abort, ended: &Ended<CountedWorld>, end: End, written: &[u8]) {
-    assert!(rt; ended.served.len() == 1);
-    for served in &ended.served {
-        assert!(rt; (served.end, served.stray) == (Some(end), None));
-        match &served.link {
-            Some(held) => assert!(rt; held.link.written() == written),
-            None => panic!(rt; "a link is gone"),
-        }
-    }
-}
+/// A client who is not ready at first.
+static LATE: [Client; 1] = [(&[Part::Pause(1), Part::Send(G)], None, None)];
 
-/// One connection by so many workers: each handler that calls its link has passed the gate before.
-fn one_behind_the_gate<R: AllocGlobal + Abort + Threads + Wait + Sync>(rt: &R, cores: u16) {
+/// Serves one connection by so many workers, through a gate, over a link whose calls are counted.
+fn serve_counted<'r, R: AllocGlobal + Abort + Threads + Wait + Sync>(
+    rt: &R,
+    cores: u16,
+    calls: &'r AtomicU64,
+    gate: &Before<'_>,
+) -> Ended<CountedWorld<'r>> {
     let site = site(rt, None);
-    let links = links_of(rt, &[(&[Part::Pause(1), Part::Send(G)], None, None)]);
-    let calls = AtomicU64::new(0);
-    let gate = Before {
-        calls: &calls,
-        due: AtomicU64::new(0),
-        is_late: AtomicU64::new(0),
-    };
     let world = CountedWorld {
-        world: MemWorld::new(links, Vec::new(rt.alloc())),
-        calls: &calls,
+        world: MemWorld::new(links_of(rt, &LATE), Vec::new(rt.alloc())),
+        calls,
     };
     let shape = shape(cores, 1);
     let colours = u32::from(world.total()) + 2;
     let Ok(_setup) = Setup::new(&shape, colours, handler_table(), 1) else {
         panic!(rt; "a number of the shape is out of its range");
     };
-    let ended = serve_all(rt, rt.alloc(), &site, &shape, world, &gate, false, false);
-    assert!(rt; ended.verdict == Verdict::Ok);
-    assert!(rt; gate.is_late.load(Ordering::SeqCst) == 0);
+    serve_all(rt, rt.alloc(), &site, &shape, world, gate, false, false)
+}
+
+/// Whether each handler of one connection that calls its link has passed the gate before, by so many
+/// workers.
+fn is_behind_the_gate<R: AllocGlobal + Abort + Threads + Wait + Sync>(rt: &R, cores: u16) -> bool {
+    let calls = AtomicU64::new(0);
+    let gate = Before {
+        calls: &calls,
+        due: AtomicU64::new(0),
+        is_late: AtomicU64::new(0),
+    };
+    let ended = serve_counted(rt, cores, &calls, &gate);
     // a read that finds the link not ready, that read again, a write of the answer's head, one of
     // its body, a read that finds the end, and the close
-    assert!(rt; calls.load(Ordering::SeqCst) == 6);
-    assert!(rt; gate.due.load(Ordering::SeqCst) == 6);
-    counted_has_left(rt, &ended, End::Done, A);
+    gate.is_late.load(Ordering::SeqCst) == 0
+        && calls.load(Ordering::SeqCst) == 6
+        && gate.due.load(Ordering::SeqCst) == 6
+        && ended.verdict == Verdict::Ok
+        && have_left(&ended, &[(End::Done, A)])
 }
 
 #[test]
 fn the_gate_is_passed_before_the_handler_runs(rt: HostRuntime) {
     for cores in [1, 2] {
-        one_behind_the_gate(&rt, cores);
+        assert!(rt; is_behind_the_gate(&rt, cores), "{cores} workers");
     }
 }
 
-#[test]
-fn two_workers_are_at_the_gate_at_once(rt: HostRuntime) {
-    let site = site(&rt, None);
-    let links = links_of(&rt, &[ASKS; 2]);
+/// Whether two workers who steal whatever is there are at the gate at once.
+fn are_at_once<R: AllocGlobal + Abort + Threads + Wait + Sync>(
+    rt: &R,
+    clock: &HostRuntime,
+) -> bool {
+    let site = site(rt, None);
     let gate = Meeting {
-        clock: &rt,
+        clock,
         passed: AtomicU64::new(0),
         has_come: AtomicU64::new(0),
         is_missed: AtomicU64::new(0),
@@ -317,15 +307,20 @@ fn two_workers_are_at_the_gate_at_once(rt: HostRuntime) {
         steal_cost: 0,
         ..shape(2, 1)
     };
-    let ended = serve(&rt, &site, &free, links, &gate);
-    assert!(rt; ended.verdict == Verdict::Ok);
-    assert!(rt; gate.is_missed.load(Ordering::SeqCst) == 0);
-    assert!(rt; gate.passed.load(Ordering::SeqCst) == events_of(&rt, &ended.histories));
+    let ended = serve(rt, &site, &free, links_of(rt, &[ASKS; 2]), &gate);
+    ended.verdict == Verdict::Ok
+        && gate.is_missed.load(Ordering::SeqCst) == 0
+        && gate.passed.load(Ordering::SeqCst) == events_of(rt, &ended.histories)
+}
+
+#[test]
+fn two_workers_are_at_the_gate_at_once(rt: HostRuntime) {
+    assert!(rt; are_at_once(&rt, &rt));
 }
 
 /// A client whose link fails, one whose link is not ready, one whose link stays so, one that is cut
 /// off, and one that sends byte by byte.
-const FAIL_AND_WAIT: [Client; 5] = [
+static FAIL_AND_WAIT: [Client; 5] = [
     (&[Part::Send(G), Part::Fault], None, None),
     (&[Part::Pause(29), Part::Send(G)], None, None),
     (&[Part::Send(G), Part::Pause(30)], None, None),
@@ -333,7 +328,7 @@ const FAIL_AND_WAIT: [Client; 5] = [
     (&[Part::Drops(G)], None, None),
 ];
 
-const FAIL_AND_WAIT_LEAVE: [Left; 5] = [
+static FAIL_AND_WAIT_LEAVE: [Left; 5] = [
     (End::Fault, A),
     (End::Done, A),
     (End::Idle, A),
@@ -341,44 +336,58 @@ const FAIL_AND_WAIT_LEAVE: [Left; 5] = [
     (End::Done, A),
 ];
 
+/// Whether links that fail and wait are left so by four workers.
+fn are_left<R: AllocGlobal + Abort + Threads + Wait + Sync>(rt: &R) -> bool {
+    let site = site(rt, None);
+    let links = links_of(rt, &FAIL_AND_WAIT);
+    let ended = serve(rt, &site, &shape(4, 2), links, &OpenGate);
+    ended.verdict == Verdict::Ok && have_left(&ended, &FAIL_AND_WAIT_LEAVE)
+}
+
 #[test]
 fn links_that_fail_and_wait_leave_the_others_alone(rt: HostRuntime) {
-    let site = site(&rt, None);
-    let links = links_of(&rt, &FAIL_AND_WAIT);
-    let ended = serve(&rt, &site, &shape(4, 2), links, &OpenGate);
-    assert!(rt; ended.verdict == Verdict::Ok);
-    have_left(&rt, &ended, &FAIL_AND_WAIT_LEAVE);
+    assert!(rt; are_left(&rt));
+}
+
+/// Whether nothing is served where there is no link.
+fn is_nothing_served<R: AllocGlobal + Abort + Threads + Wait + Sync>(rt: &R) -> bool {
+    let site = site(rt, None);
+    let ended = serve(rt, &site, &shape(4, 4), Vec::new(rt.alloc()), &OpenGate);
+    ended.verdict == Verdict::Ok
+        && ended.world.is_some()
+        && (ended.accepted, ended.served.len()) == (0, 0)
 }
 
 #[test]
 fn nothing_is_to_be_served_by_threads_where_there_is_no_link(rt: HostRuntime) {
-    let site = site(&rt, None);
-    let ended = serve(&rt, &site, &shape(4, 4), Vec::new(rt.alloc()), &OpenGate);
-    assert!(rt; ended.verdict == Verdict::Ok);
-    assert!(rt; ended.world.is_some());
-    assert!(rt; (ended.accepted, ended.served.len()) == (0, 0));
+    assert!(rt; is_nothing_served(&rt));
 }
 
-const THIRD_STARVES: [Client; 4] = [
+/// Four clients on four workers: one fails, one waits, one finds no memory to write, and one is
+/// served.
+static THIRD_STARVES: [Client; 4] = [
     (&[Part::Send(G), Part::Fault], None, None),
     (&[Part::Pause(29), Part::Send(G)], None, None),
     ASKS,
     ASKS,
 ];
 
-const THIRD_STARVES_LEAVE: [Left; 4] = [
+static THIRD_STARVES_LEAVE: [Left; 4] = [
     (End::Fault, A),
     (End::Done, A),
     (End::Memory, b""),
     (End::Done, A),
 ];
 
-/// Four connections on four workers: one fails, one waits, one finds no memory to
-/// write, and one is served.
+/// Whether want of memory of the third link ends its own connection.
+fn is_third_starved<R: AllocGlobal + Abort + Threads + Wait + Sync>(rt: &R) -> bool {
+    let ended = starve(rt, &FOUR, links_of(rt, &THIRD_STARVES), 3);
+    ended.verdict == Verdict::Memory
+        && (ended.accepted, ended.failed) == (4, false)
+        && have_left(&ended, &THIRD_STARVES_LEAVE)
+}
+
 #[test]
 fn want_of_memory_of_a_link_ends_its_own_connection_on_threads(rt: HostRuntime) {
-    let ended = starve(&rt, &FOUR, links_of(&rt, &THIRD_STARVES), 3);
-    assert!(rt; ended.verdict == Verdict::Memory);
-    assert!(rt; (ended.accepted, ended.failed) == (4, false));
-    starved_have_left(&rt, &ended, &THIRD_STARVES_LEAVE);
+    assert!(rt; is_third_starved(&rt));
 }

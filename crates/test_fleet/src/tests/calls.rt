@@ -9,13 +9,12 @@ ghost use Rattle.test_fleet.specs.Callers.{IsRow, MayFinish};
 
 use super::{EVENT, fleet_of, setup_of};
 use example_counting::{Tally, draw};
-use mely_event::{Colour, Fits, Kept, Trail};
+use mely_event::{Colour, Fits, Kept, Memory, Trail};
 use mely_fleet::{Fleet, KeptShard, Passes};
 use mely_history::{After, NoSteal, NoTake, Registered, Shape, Stolen};
 use mely_queue::Turn;
 use std::alloc::Global;
 use std::sync::Wait;
-use std::test::Fail;
 
 /// The replies to the first and the second registration on a colour of core 0.
 const WOKE: Registered = Registered::Woke {
@@ -154,7 +153,7 @@ fn take_turn<R: Wait>(
 fn last_of(
     fleet: &Fleet<Tally, u8>,
     passes: &mut Vec<Passes<Tally, u8>>,
-) -> Result<Passes<Tally, u8>, Fail>
+) -> Result<Passes<Tally, u8>, Memory>
     requires { AtEach (λ n own.
         AreInitialPasses (shard_frame ⟦<Tally as Trail>⟧.frame_of) fleet.now n own)
         passes.old.items }
@@ -167,7 +166,7 @@ fn last_of(
     ensures fewer { IfOk result (λ _. length passes.old.items ≡ length passes.new.items + 1) }
 {
     let Some(own) = passes.pop() else {
-        return Err(Fail::from("no passes"));
+        return Err(Memory);
     };
     Ok(own)
 }
@@ -295,13 +294,13 @@ fn meanwhile_answers<R: Wait>(
 }
 
 /// The calls before core 0 takes the turn of colour 2, and those behind its finish.
-const BEFORE: [(By, u16, Call); 3] = [
+static BEFORE: [(By, u16, Call); 3] = [
     (By::Two, 2, Call::Register(Some(WOKE))),
     (By::Two, 2, Call::Register(Some(TOLD))),
     (By::One, 2, Call::Turn(Err(NoTake::Elsewhere { owner: 0 }))),
 ];
 
-const BEHIND: [(By, u16, Call); 7] = [
+static BEHIND: [(By, u16, Call); 7] = [
     (By::Zero, 2, Call::Steal(Err(NoSteal::Own))),
     (By::Two, 2, Call::Reserve),
     (By::One, 2, Call::Steal(Ok(TAKEN_OVER))),
@@ -320,7 +319,7 @@ const BEHIND: [(By, u16, Call); 7] = [
 ];
 
 /// The calls where a steal costs as much as an event is worth.
-const CHEAP: [(By, u16, Call); 2] = [
+static CHEAP: [(By, u16, Call); 2] = [
     (By::Two, 2, Call::Register(Some(WOKE))),
     (By::One, 2, Call::Steal(Err(NoSteal::Cheap { worth: 30 }))),
 ];
@@ -357,7 +356,7 @@ fn three_get_replies<R: Wait>(
     shards: u16,
     steal_cost: u32,
     is_cheap: bool,
-) -> Result<bool, Fail> {
+) -> Result<bool, Memory> {
     let setup = setup_of(&shape_of(shards, steal_cost), 4, 30)?;
     let (fleet, mut passes) = fleet_of(alloc, &setup, 4, 1)?;
     let mut two = last_of(&fleet, &mut passes)?;
@@ -367,12 +366,12 @@ fn three_get_replies<R: Wait>(
 }
 
 /// So many shards, what a steal costs, and whether an event is worth no more than that.
-const ROWS: [(u16, u32, bool); 4] = [(1, 20, false), (1, 30, true), (4, 20, false), (4, 30, true)];
+static ROWS: [(u16, u32, bool); 4] = [(1, 20, false), (1, 30, true), (4, 20, false), (4, 30, true)];
 
 #[test]
-fn passes_of_three_callers_get_the_replies_of_a_shard(rt: HostRuntime) -> Result<(), Fail> {
+fn passes_of_three_callers_get_the_replies_of_a_shard(rt: HostRuntime) {
     for &(shards, steal_cost, is_cheap) in &ROWS {
-        assert!(rt; three_get_replies(&rt, rt.alloc(), shards, steal_cost, is_cheap)?);
+        let are_so = three_get_replies(&rt, rt.alloc(), shards, steal_cost, is_cheap);
+        assert!(rt; are_so == Ok(true), "{shards} shards, cost {steal_cost}");
     }
-    Ok(())
 }

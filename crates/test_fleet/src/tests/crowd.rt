@@ -18,10 +18,8 @@ use mely_steal::victims;
 use mely_weave::{Drained, Weave, WeaveParts};
 use mely_worker::{IdleWorker, OpenGate, Worker};
 use std::alloc::Global;
-use std::process::Abort;
 use std::sync::Wait;
 use std::sync::atomic::{AtomicU64, Ordering};
-use std::test::Fail;
 use std::thread;
 use std::thread::Threads;
 
@@ -257,7 +255,7 @@ pub(super) fn open_fleet(
     setup: &Setup,
     colours: u16,
     outsiders: u16,
-) -> Result<Opened, Fail>
+) -> Result<Opened, Memory>
     requires colours { colours_of setup.now ≡ colours }
     requires few { (shape_of setup.now).cores + outsiders ≤ 65535 }
     ensures { IfOk result (λ opened.
@@ -314,7 +312,7 @@ pub(super) fn close_fleet(
 }
 
 /// Who act at once, and how many handlers have run when they are back, where that is known.
-type Stage = (Who, Option<u64>);
+pub(super) type Stage = (Who, Option<u64>);
 
 /// One stage after another; whether as many handlers had run after each.
 fn act_out<R: Threads + Wait + Sync>(
@@ -354,7 +352,7 @@ pub(super) fn run_stages<R: Threads + Wait + Sync>(
     outsiders: u16,
     run: &Run,
     stages: &[Stage],
-) -> Result<(Weave<Tally, u8>, Ran), Fail>
+) -> Result<(Weave<Tally, u8>, Ran), Memory>
     requires colours { colours_of setup.now ≡ colours }
     requires app { run.now.app.colours ≡ colours }
     requires row { IsRow (shape_of setup.now).cores colours setup.now }
@@ -380,7 +378,7 @@ fn run_out<R: Threads + Wait + Sync>(
     outsiders: u16,
     run: &Run,
     stages: &[Stage],
-) -> Result<(WeaveParts<Tally, u8>, Ran, Drained), Fail>
+) -> Result<(WeaveParts<Tally, u8>, Ran, Drained), Memory>
     requires colours { colours_of setup.now ≡ colours }
     requires app { run.now.app.colours ≡ colours }
     requires row { IsRow (shape_of setup.now).cores colours setup.now }
@@ -433,8 +431,11 @@ fn drew(states: &[Tally], draws: &[u64]) -> bool {
     states.len() == draws.len()
 }
 
-#[test]
-fn two_workers_run_what_one_outsider_posted(rt: HostRuntime) -> Result<(), Fail> {
+/// An outsider posts, and two workers run it.
+static POSTED: [Stage; 2] = [(Who::Others, Some(0)), (Who::Cores, Some(20))];
+
+/// Whether two workers run what one outsider posted.
+fn two_run_it<R: Threads + Wait + Sync>(rt: &R, alloc: Global) -> Result<bool, Memory> {
     let shape = Shape {
         cores: 2,
         shards: 1,
@@ -444,20 +445,21 @@ fn two_workers_run_what_one_outsider_posted(rt: HostRuntime) -> Result<(), Fail>
     };
     let setup = setup_of(&shape, 3, 10)?;
     let run = Run::new(3, 30, 0, Some(1));
-    let stages = [(Who::Others, Some(0)), (Who::Cores, Some(20))];
-    let (weave, ran) = run_stages(&rt, rt.alloc(), &setup, 3, 1, &run, &stages)?;
+    let (weave, ran) = run_stages(rt, alloc, &setup, 3, 1, &run, &POSTED)?;
     let parts = weave.into_parts();
-    assert!(rt; ran == (true, 2, 0));
-    assert!(rt; none_waits(&parts.queued));
-    assert!(rt; drew(&parts.states, &[10, 0, 10]));
-    Ok(())
+    Ok(ran == (true, 2, 0) && none_waits(&parts.queued) && drew(&parts.states, &[10, 0, 10]))
 }
 
-/// A machine that refuses a thread leaves a fleet like this.
 #[test]
-fn a_worker_whose_fellow_never_begins_gives_up_and_nothing_is_lost(
-    rt: HostRuntime,
-) -> Result<(), Fail> {
+fn two_workers_run_what_one_outsider_posted(rt: HostRuntime) {
+    assert!(rt; two_run_it(&rt, rt.alloc()) == Ok(true));
+}
+
+/// An outsider posts, and the worker of the first core alone works.
+static ALONE: [Stage; 2] = [(Who::Others, Some(0)), (Who::FirstCore, Some(20))];
+
+/// Whether a worker whose fellow never begins gives up, and nothing is lost.
+fn gives_up<R: Threads + Wait + Sync>(rt: &R, alloc: Global) -> Result<bool, Memory> {
     let shape = Shape {
         cores: 2,
         shards: 1,
@@ -467,29 +469,32 @@ fn a_worker_whose_fellow_never_begins_gives_up_and_nothing_is_lost(
     };
     let setup = setup_of(&shape, 3, 10)?;
     let run = Run::new(3, 30, 0, None);
-    let stages = [(Who::Others, Some(0)), (Who::FirstCore, Some(20))];
-    let (parts, ran, drained) = run_out(&rt, rt.alloc(), &setup, 3, 1, &run, &stages)?;
+    let (parts, ran, drained) = run_out(rt, alloc, &setup, 3, 1, &run, &ALONE)?;
     drop(parts);
-    assert!(rt; ran == (true, 0, 0));
-    assert!(rt; drained == Drained::Empty);
-    assert!(rt; run.app.ran.load(Ordering::SeqCst) == 30);
-    Ok(())
+    let count = run.app.ran.load(Ordering::SeqCst);
+    Ok(ran == (true, 0, 0) && drained == Drained::Empty && count == 30)
 }
 
-/// How many events the histories of a run have registered and finished, each of which is legal.
-fn counted(rt: &impl Abort, setup: &Setup, histories: &[History]) -> Result<(u64, u64), Fail> {
+/// A machine that refuses a thread leaves a fleet like this.
+#[test]
+fn a_worker_whose_fellow_never_begins_gives_up_and_nothing_is_lost(rt: HostRuntime) {
+    assert!(rt; gives_up(&rt, rt.alloc()) == Ok(true));
+}
+
+/// How many events the histories of a run have registered and finished, where each of them is legal.
+fn counted(setup: &Setup, histories: &[History]) -> Option<(u64, u64)> {
     let mut registered = 0u64;
     let mut finished = 0u64;
     for history in histories {
-        let Some(entries) = history.entries() else {
-            return Err(Fail::from("no list"));
-        };
-        assert!(rt; judge(setup, entries) == Judged::Legal);
+        let entries = history.entries()?;
+        if judge(setup, entries) != Judged::Legal {
+            return None;
+        }
         let (here, ended) = counts(entries);
         registered = registered.wrapping_add(here);
         finished = finished.wrapping_add(ended);
     }
-    Ok((registered, finished))
+    Some((registered, finished))
 }
 
 /// How many handlers ran on all of the states.
@@ -501,13 +506,16 @@ fn drawn(states: &[Tally]) -> u64 {
     ran
 }
 
+/// All act at once, and then the cores alone.
+static CROWD: [Stage; 2] = [(Who::All, None), (Who::Cores, None)];
+
 /// Eight workers and three outsiders at once: whether each history is legal, and each of so many
 /// events was registered and run.
-fn crowd_is_right<R: Threads + Wait + Sync + Abort>(
+fn crowd_is_right<R: Threads + Wait + Sync>(
     rt: &R,
     alloc: Global,
     shards: u16,
-) -> Result<(), Fail> {
+) -> Result<bool, Memory> {
     let shape = Shape {
         cores: 8,
         shards,
@@ -517,21 +525,26 @@ fn crowd_is_right<R: Threads + Wait + Sync + Abort>(
     };
     let setup = listed_setup_of(&shape, 12, 10)?;
     let run = Run::new(12, 24, 4, None);
-    let stages = [(Who::All, None), (Who::Cores, None)];
-    let (parts, ran, drained) = run_out(rt, alloc, &setup, 12, 3, &run, &stages)?;
-    assert!(rt; ran == (true, 16, 0));
-    assert!(rt; drained == Drained::Empty);
-    assert!(rt; counted(rt, &setup, &parts.histories)? == (360, 360));
-    assert!(rt; drawn(&parts.states) == 360);
-    assert!(rt; run.app.ran.load(Ordering::SeqCst) == 360);
-    Ok(())
+    let (parts, ran, drained) = run_out(rt, alloc, &setup, 12, 3, &run, &CROWD)?;
+    Ok(
+        ran == (true, 16, 0)
+            && drained == Drained::Empty
+            && counted(&setup, &parts.histories) == Some((360, 360))
+            && drawn(&parts.states) == 360
+            && run.app.ran.load(Ordering::SeqCst) == 360,
+    )
 }
 
 #[test]
-fn eight_workers_and_three_outsiders_leave_legal_histories(rt: HostRuntime) -> Result<(), Fail> {
-    for _ in 0..50 {
-        crowd_is_right(&rt, rt.alloc(), 1)?;
-        crowd_is_right(&rt, rt.alloc(), 4)?;
+fn eight_workers_and_three_outsiders_leave_legal_histories(rt: HostRuntime) {
+    for time in 0..50 {
+        assert!(rt;
+            crowd_is_right(&rt, rt.alloc(), 1) == Ok(true),
+            "time {time}"
+        );
+        assert!(rt;
+            crowd_is_right(&rt, rt.alloc(), 4) == Ok(true),
+            "time {time}"
+        );
     }
-    Ok(())
 }

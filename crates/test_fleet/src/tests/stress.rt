@@ -3,16 +3,17 @@ ghost use Rattle.std.specs.Prelude.{◌≡◌, IfOk};
 ghost use Rattle.mely_history.specs.Setup.{shape_of, colours_of};
 ghost use Rattle.test_fleet.specs.Callers.{IsOpen, IsRow};
 
-use super::crowd::{Opened, Run, Who, act_in, close_fleet, none_waits, open_fleet, run_stages};
+use super::crowd::{
+    Opened, Run, Stage, Who, act_in, close_fleet, none_waits, open_fleet, run_stages,
+};
 use super::setup_of;
 use example_counting::Tally;
-use mely_event::{Fits, Handlers, Kept, Trail};
+use mely_event::{Fits, Handlers, Kept, Memory, Trail};
 use mely_history::{Setup, Shape};
 use std::alloc::Global;
 use std::rt::Clock;
 use std::sync::Wait;
 use std::sync::atomic::Ordering;
-use std::test::Fail;
 use std::thread::Threads;
 use std::time::Instant;
 
@@ -21,7 +22,7 @@ const SECONDS: u64 = 10;
 
 /// 64 cores with a pinned colour each, and twice as many colours that are worth a steal where two
 /// events wait.
-fn crowded_setup() -> Result<Setup, Fail>
+fn crowded_setup() -> Result<Setup, Memory>
     ensures { IfOk result (λ setup. IsRow 64 192 setup) }
 {
     let shape = Shape {
@@ -32,11 +33,11 @@ fn crowded_setup() -> Result<Setup, Fail>
         group: 8,
     };
     let Ok(handlers) = Handlers::new(&[(10, 1)]) else {
-        return Err(Fail::from("no table"));
+        return Err(Memory);
     };
     match Setup::new(&shape, 192, handlers, 64) {
         Ok(setup) => Ok(setup),
-        Err(_) => Err(Fail::from("no setup")),
+        Err(_) => Err(Memory),
     }
 }
 
@@ -77,7 +78,7 @@ fn all_rounds<R: Threads + Wait + Sync + Clock>(
     alloc: Global,
     setup: &Setup,
     run: &Run,
-) -> Result<(u64, bool), Fail>
+) -> Result<(u64, bool), Memory>
     requires colours { run.now.app.colours ≡ 192 }
     requires row { IsRow 64 192 setup.now }
 {
@@ -89,23 +90,37 @@ fn all_rounds<R: Threads + Wait + Sync + Clock>(
     Ok((rounds, none_waits(&parts.queued)))
 }
 
-#[test]
-fn workers_of_64_cores_end_round_after_round_and_run_every_event(
-    rt: HostRuntime,
-) -> Result<(), Fail> {
+/// Whether the workers of 64 cores end round after round, and run every event.
+fn run_every_event<R: Threads + Wait + Sync + Clock>(
+    rt: &R,
+    alloc: Global,
+) -> Result<bool, Memory> {
     let setup = crowded_setup()?;
     let run = Run::new(192, 192, 1, None);
-    let (rounds, is_empty) = all_rounds(&rt, rt.alloc(), &setup, &run)?;
-    assert!(rt; run.quiet.load(Ordering::SeqCst) == 64);
-    assert!(rt; run.refused.load(Ordering::SeqCst) == 0);
-    assert!(rt; rounds > 0);
-    assert!(rt; run.app.ran.load(Ordering::SeqCst) == rounds.wrapping_mul(768));
-    assert!(rt; is_empty);
-    Ok(())
+    let (rounds, is_empty) = all_rounds(rt, alloc, &setup, &run)?;
+    Ok(
+        run.quiet.load(Ordering::SeqCst) == 64
+            && run.refused.load(Ordering::SeqCst) == 0
+            && rounds > 0
+            && run.app.ran.load(Ordering::SeqCst) == rounds.wrapping_mul(768)
+            && is_empty,
+    )
 }
 
 #[test]
-fn a_worker_that_gave_up_works_on_once_its_fellow_does(rt: HostRuntime) -> Result<(), Fail> {
+fn workers_of_64_cores_end_round_after_round_and_run_every_event(rt: HostRuntime) {
+    assert!(rt; run_every_event(&rt, rt.alloc()) == Ok(true));
+}
+
+/// The others post, the first core works until it gives up, and then both cores work.
+static GAVE_UP: [Stage; 3] = [
+    (Who::Others, Some(0)),
+    (Who::FirstCore, Some(20)),
+    (Who::Cores, Some(30)),
+];
+
+/// Whether a worker that gave up works on once its fellow does.
+fn works_on<R: Threads + Wait + Sync>(rt: &R, alloc: Global) -> Result<bool, Memory> {
     let shape = Shape {
         cores: 2,
         shards: 1,
@@ -115,13 +130,12 @@ fn a_worker_that_gave_up_works_on_once_its_fellow_does(rt: HostRuntime) -> Resul
     };
     let setup = setup_of(&shape, 3, 10)?;
     let run = Run::new(3, 30, 0, None);
-    let stages = [
-        (Who::Others, Some(0)),
-        (Who::FirstCore, Some(20)),
-        (Who::Cores, Some(30)),
-    ];
-    let (weave, ran) = run_stages(&rt, rt.alloc(), &setup, 3, 1, &run, &stages)?;
+    let (weave, ran) = run_stages(rt, alloc, &setup, 3, 1, &run, &GAVE_UP)?;
     drop(weave.into_parts());
-    assert!(rt; ran == (true, 2, 0));
-    Ok(())
+    Ok(ran == (true, 2, 0))
+}
+
+#[test]
+fn a_worker_that_gave_up_works_on_once_its_fellow_does(rt: HostRuntime) {
+    assert!(rt; works_on(&rt, rt.alloc()) == Ok(true));
 }

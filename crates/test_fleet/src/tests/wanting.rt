@@ -6,7 +6,7 @@ ghost use Rattle.test_fleet.specs.Callers.{IsRow};
 use super::listed_setup_of;
 use super::sowing::{Sowing, Sown, sown_states};
 use mely_crew::run_crew;
-use mely_event::{Colour, Event, Fits, Trail};
+use mely_event::{Colour, Event, Fits, Memory, Trail};
 use mely_history::{Entry, History, Judged, Setup, Shape, judge};
 use mely_weave::{Drained, Weave, WeaveParts};
 use mely_worker::OpenGate;
@@ -31,7 +31,7 @@ fn sowing(count: u16) -> Event
 }
 
 /// Two cores and two colours, batches of 1, and one handler of weight 10. The histories are listed.
-fn pair(shards: u16, steal_cost: u32) -> Result<Setup, Fail>
+fn pair(shards: u16, steal_cost: u32) -> Result<Setup, Memory>
     ensures { IfOk result (IsRow 2 2) }
 {
     let shape = Shape {
@@ -45,10 +45,10 @@ fn pair(shards: u16, steal_cost: u32) -> Result<Setup, Fail>
 }
 
 /// The events of a colour, in the order in which they were registered in its history.
-fn registered(alloc: Global, history: &History, sought: Colour) -> Result<Vec<Event>, Fail> {
+fn registered(alloc: Global, history: &History, sought: Colour) -> Result<Vec<Event>, Memory> {
     let mut events = Vec::new(alloc);
     let Some(entries) = history.entries() else {
-        return Err(Fail::from("no list"));
+        return Err(Memory);
     };
     for entry in entries {
         match entry {
@@ -86,11 +86,11 @@ fn known_of(
     setup: &Setup,
     histories: &[History],
     colour: Colour,
-) -> Result<Vec<Event>, Fail> {
+) -> Result<Vec<Event>, Memory> {
     let mut known = Vec::new(alloc);
     for history in histories {
         let Some(entries) = history.entries() else {
-            return Err(Fail::from("no list"));
+            return Err(Memory);
         };
         assert!(rt; judge(setup, entries) == Judged::Legal);
         let here = registered(alloc, history, colour)?;
@@ -105,7 +105,7 @@ fn handed_of(
     alloc: Global,
     state: &Sown,
     queued: &[(Event, Option<u8>)],
-) -> Result<Vec<Event>, Fail> {
+) -> Result<Vec<Event>, Memory> {
     let mut handed = state.ran.to_vec(alloc)?;
     for (event, load) in queued {
         assert!(rt; *load == Some(7));
@@ -124,7 +124,7 @@ fn waiting_on(
     colour: Colour,
     state: &Sown,
     queued: &[(Event, Option<u8>)],
-) -> Result<usize, Fail> {
+) -> Result<usize, Memory> {
     let known = known_of(rt, alloc, setup, histories, colour)?;
     let handed = handed_of(rt, alloc, state, queued)?;
     assert!(rt; handed == known);
@@ -137,7 +137,7 @@ fn remains_of(
     alloc: Global,
     setup: &Setup,
     parts: &WeaveParts<Sown, u8>,
-) -> Result<Remains, Fail> {
+) -> Result<Remains, Memory> {
     assert!(rt; (parts.states.len(), parts.queued.len()) == (2, 2));
     let mut waiting = 0;
     for (number, (state, queued)) in parts.states.iter().zip(&parts.queued).enumerate() {
@@ -169,7 +169,7 @@ fn harvest(
     alloc: Global,
     setup: &Setup,
     parts: &WeaveParts<Sown, u8>,
-) -> Result<Remains, Fail> {
+) -> Result<Remains, Memory> {
     let left = remains_of(rt, alloc, setup, parts)?;
     let mut known = left.lost;
     for history in &parts.histories {
@@ -185,12 +185,12 @@ fn harvest(
 fn sow<R: AllocGlobal + Threads + Wait + Sync + Abort>(
     rt: &R,
     setup: &Setup,
-) -> Result<Option<(Drained, Remains)>, Fail>
+) -> Result<Option<(Drained, Remains)>, Memory>
     requires { IsRow 2 2 setup.now }
 {
     let alloc = rt.alloc();
     let Ok(states) = sown_states(alloc) else {
-        return Err(Fail::from("no states"));
+        return Err(Memory);
     };
     let begin = (C0, sowing(20), Some(7));
     let (weave, drained) = match run_crew(rt, alloc, setup, states, begin, &Sowing, &OpenGate) {
@@ -208,12 +208,12 @@ fn sow<R: AllocGlobal + Threads + Wait + Sync + Abort>(
 fn sow_alone<R: AllocGlobal + Wait + Abort>(
     rt: &R,
     setup: &Setup,
-) -> Result<Option<(Drained, Remains)>, Fail>
+) -> Result<Option<(Drained, Remains)>, Memory>
     requires { IsRow 2 2 setup.now }
 {
     let alloc = rt.alloc();
     let Ok(states) = sown_states(alloc) else {
-        return Err(Fail::from("no states"));
+        return Err(Memory);
     };
     let Ok(mut weave) = Weave::new(alloc, setup, states) else {
         return Ok(None);
@@ -245,13 +245,28 @@ fn is_handed_out(ran: Option<(Drained, Remains)>) -> bool {
     }
 }
 
+/// So many shards, and what a steal costs.
+static PAIRS: [(u16, u32); 4] = [(1, 5), (2, 5), (1, 1_000_000), (2, 1_000_000)];
+
+/// What comes of a run by two threads on so many shards, where a steal costs so much.
+fn sown<R: AllocGlobal + Threads + Wait + Sync + Abort>(
+    rt: &R,
+    shards: u16,
+    steal_cost: u32,
+) -> Result<Option<(Drained, Remains)>, Memory> {
+    let setup = pair(shards, steal_cost)?;
+    sow(rt, &setup)
+}
+
 #[test]
-fn threads_run_all_that_one_event_sows(rt: HostRuntime) -> Result<(), Fail> {
-    for (shards, steal_cost) in [(1, 5), (2, 5), (1, 1_000_000), (2, 1_000_000)] {
-        let setup = pair(shards, steal_cost)?;
-        assert!(rt; is_reaped(sow(&rt, &setup)?));
+fn threads_run_all_that_one_event_sows(rt: HostRuntime) {
+    for &(shards, steal_cost) in &PAIRS {
+        let ran = sown(&rt, shards, steal_cost);
+        assert!(rt;
+            ran.is_ok_and(is_reaped),
+            "{shards} shards, cost {steal_cost}"
+        );
     }
-    Ok(())
 }
 
 /// Whatever request for memory is refused, in the making of the fleet or in its run: nothing was
@@ -259,15 +274,16 @@ fn threads_run_all_that_one_event_sows(rt: HostRuntime) -> Result<(), Fail> {
 /// the test refuses none: it is for `bench/memory.py --tests`.
 #[test]
 fn threads_that_are_refused_memory_hand_all_out(rt: HostRuntime) -> Result<(), Fail> {
-    let setup = pair(2, 5)?;
-    assert!(rt; is_handed_out(sow(&rt, &setup)?));
+    let ran = sown(&rt, 2, 5).ok().ok_or("no memory")?;
+    assert!(rt; is_handed_out(ran));
     Ok(())
 }
 
 /// The same of a weave, whose steps are made in one order.
 #[test]
 fn a_weave_that_is_refused_memory_hands_all_out(rt: HostRuntime) -> Result<(), Fail> {
-    let setup = pair(1, 5)?;
-    assert!(rt; is_handed_out(sow_alone(&rt, &setup)?));
+    let setup = pair(1, 5).ok().ok_or("no setup")?;
+    let ran = sow_alone(&rt, &setup).ok().ok_or("no memory")?;
+    assert!(rt; is_handed_out(ran));
     Ok(())
 }

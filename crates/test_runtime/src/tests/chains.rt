@@ -1,10 +1,8 @@
 ghost use Rattle.std.specs.Prelude.{◌≡◌};
 
 use mely_core::CoreQueue;
-use mely_event::{Colour, Mark, There};
+use mely_event::{Colour, Mark, Memory, There};
 use std::alloc::Global;
-use std::process::Abort;
-use std::test::Fail;
 
 fn mark(colour: u16, worth: u128) -> Mark
     ensures { result ≡ record { colour = record { 0 = colour }; started = 0; worth = worth } }
@@ -72,16 +70,19 @@ fn answers(queue: &mut CoreQueue, call: Call) -> bool
     }
 }
 
-/// Makes calls of a new queue of four colours and cost 20, of which so many are pinned.
-fn play(rt: &impl Abort, alloc: Global, pinned: u32, calls: &[Call]) -> Result<(), Fail> {
+/// The first of these calls of a new queue of four colours and cost 20, of which so many are pinned,
+/// that doesn't answer so.
+fn first_wrong(alloc: Global, pinned: u32, calls: &[Call]) -> Result<Option<usize>, Memory> {
     let mut queue = across(CoreQueue::new(alloc, 4, 20, pinned)?);
     'calls: for (number, call) in calls.iter().enumerate() {
-        assert!(rt; answers(&mut queue, *call), "call {number}");
+        if !answers(&mut queue, *call) {
+            return Ok(Some(number));
+        }
     }
-    Ok(())
+    Ok(None)
 }
 
-const HIGHEST_FIRST: [Call; 20] = [
+static HIGHEST_FIRST: [Call; 20] = [
     Call::Push(0, 30, true),
     Call::Push(1, 20, true),
     Call::Push(2, 50, true),
@@ -105,13 +106,11 @@ const HIGHEST_FIRST: [Call; 20] = [
 ];
 
 #[test]
-fn a_thief_takes_from_the_highest_class_and_the_core_runs_the_rest(
-    rt: HostRuntime,
-) -> Result<(), Fail> {
-    play(&rt, rt.alloc(), 0, &HIGHEST_FIRST)
+fn a_thief_takes_from_the_highest_class_and_the_core_runs_the_rest(rt: HostRuntime) {
+    assert!(rt; first_wrong(rt.alloc(), 0, &HIGHEST_FIRST) == Ok(None));
 }
 
-const TWO_ARE_PINNED: [Call; 10] = [
+static TWO_ARE_PINNED: [Call; 10] = [
     Call::Push(0, 90, true),
     Call::Push(1, 90, true),
     Call::Push(2, 90, true),
@@ -125,55 +124,67 @@ const TWO_ARE_PINNED: [Call; 10] = [
 ];
 
 #[test]
-fn a_thief_takes_no_pinned_colour(rt: HostRuntime) -> Result<(), Fail> {
-    play(&rt, rt.alloc(), 2, &TWO_ARE_PINNED)
+fn a_thief_takes_no_pinned_colour(rt: HostRuntime) {
+    assert!(rt; first_wrong(rt.alloc(), 2, &TWO_ARE_PINNED) == Ok(None));
 }
 
 /// The number of colours there are.
 const ALL: u32 = 65_536;
 
-/// Pushes the mark (c, 0, 30) of every colour, upwards.
-fn push_all(rt: &impl Abort, queue: &mut CoreQueue)
+/// Pushes the mark (c, 0, 30) of every colour, upwards, and says whether each is new.
+fn push_all(queue: &mut CoreQueue) -> bool
     requires { queue.old.colours ≡ ALL }
     ensures { queue.new.colours ≡ ALL }
 {
     'colours: for number in 0..ALL {
-        let colour = number as u16;
-        assert!(rt; queue.push(mark(colour, 30)) == Ok(()));
+        if queue.push(mark(number as u16, 30)).is_err() {
+            return false;
+        }
     }
+    true
 }
 
-/// Reports of every colour that it is worth 90, downwards.
-fn retell_all(rt: &impl Abort, queue: &mut CoreQueue)
+/// Reports of every colour that it is worth 90, downwards, and says whether each is there.
+fn retell_all(queue: &mut CoreQueue) -> bool
+    requires { queue.old.colours ≡ ALL }
+    ensures { queue.new.colours ≡ ALL }
+{
+    'colours: for number in 0..ALL {
+        let colour = Colour((ALL - 1 - number) as u16);
+        if !queue.retell(colour, 0, 90) {
+            return false;
+        }
+    }
+    true
+}
+
+/// Picks every colour, and says whether the last comes first, each worth 90.
+fn pick_all(queue: &mut CoreQueue) -> bool
     requires { queue.old.colours ≡ ALL }
     ensures { queue.new.colours ≡ ALL }
 {
     'colours: for number in 0..ALL {
         let colour = (ALL - 1 - number) as u16;
-        assert!(rt; queue.retell(Colour(colour), 0, 90));
+        if queue.pick() != Some(mark(colour, 90)) {
+            return false;
+        }
     }
+    true
 }
 
-/// Picks every colour, the last first, each worth 90.
-fn pick_all(rt: &impl Abort, queue: &mut CoreQueue)
-    requires { queue.old.colours ≡ ALL }
-    ensures { queue.new.colours ≡ ALL }
-{
-    'colours: for number in 0..ALL {
-        let colour = (ALL - 1 - number) as u16;
-        assert!(rt; queue.pick() == Some(mark(colour, 90)));
+/// Whether every colour is pushed, told of and picked, so often, and none is left each time.
+fn goes_round(alloc: Global, times: u32) -> Result<bool, Memory> {
+    let mut queue = CoreQueue::new(alloc, ALL, 20, 0)?;
+    'rounds: for _ in 0..times {
+        let is_round = push_all(&mut queue) && retell_all(&mut queue) && pick_all(&mut queue);
+        if !is_round || queue.pick() != None || queue.pop() != None {
+            return Ok(false);
+        }
     }
+    Ok(true)
 }
 
 #[test]
-fn every_colour_is_pushed_told_of_and_picked_a_hundred_times(rt: HostRuntime) -> Result<(), Fail> {
-    let mut queue = CoreQueue::new(rt.alloc(), ALL, 20, 0)?;
-    'rounds: for _ in 0..100 {
-        push_all(&rt, &mut queue);
-        retell_all(&rt, &mut queue);
-        pick_all(&rt, &mut queue);
-        assert!(rt; queue.pick() == None);
-        assert!(rt; queue.pop() == None);
-    }
-    Ok(())
+fn every_colour_is_pushed_told_of_and_picked_a_hundred_times(rt: HostRuntime) {
+    assert!(rt; goes_round(rt.alloc(), 100) == Ok(true));
 }

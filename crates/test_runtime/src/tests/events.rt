@@ -1,11 +1,12 @@
 ghost use Rattle.std.specs.Prelude.{◌≡◌};
 
+use super::histories::is_printed;
 use mely_event::{
     Colour, Event, Fits, Handlers, Kept, Logged, Mark, Memory, TableFault, There, TrailLog,
     Unregistered,
 };
+use std::alloc::{AllocError, Global};
 use std::mem::size_of;
-use std::test::Fail;
 
 /// What a lock keeps: a list, which is noted event by event.
 #[derive(Drop)]
@@ -37,37 +38,63 @@ fn handed_on<S: Fits<Vec<u8>>>(state: S) -> S
     state
 }
 
-#[test]
-fn weight_is_the_time_over_the_penalty_rounded_down(rt: HostRuntime) {
+/// A table's handlers, with the time, the penalty and the weight of each.
+static WEIGHTS: [(u8, u32, u32, u32); 2] = [(0, 60, 2, 30), (1, 7, 2, 3)];
+
+/// Whether a handler of a table has this time, penalty and weight.
+fn has_weight(handlers: &Handlers, row: (u8, u32, u32, u32)) -> bool {
+    let (handler, time, penalty, weight) = row;
+    usize::from(handler) < handlers.len()
+        && handlers.time(handler) == time
+        && handlers.penalty(handler) == penalty
+        && handlers.weight(handler) == weight
+}
+
+/// Whether a table of two handlers has two, with their weights.
+fn has_weights() -> bool {
     let Ok(handlers) = Handlers::new(&[(60, 2), (7, 2)]) else {
-        panic!(rt; "no table");
+        return false;
     };
-    assert!(rt; handlers.len() == 2);
-    for (handler, time, penalty, weight) in [(0, 60, 2, 30), (1, 7, 2, 3)] {
-        assert!(rt; (handler as usize) < handlers.len());
-        assert!(rt; handlers.time(handler) == time, "handler {handler}");
-        assert!(rt; handlers.penalty(handler) == penalty, "handler {handler}");
-        assert!(rt; handlers.weight(handler) == weight, "handler {handler}");
+    for &row in &WEIGHTS {
+        if !has_weight(&handlers, row) {
+            return false;
+        }
     }
+    handlers.len() == 2
 }
 
 #[test]
+fn weight_is_the_time_over_the_penalty_rounded_down(rt: HostRuntime) {
+    assert!(rt; has_weights());
+}
+
+/// Tables, and why each is refused.
+static TABLES: [(&[(u32, u32)], Option<TableFault>); 3] = [
+    (&[], None),
+    (
+        &[(60, 2), (5, 0)],
+        Some(TableFault::ZeroPenalty { handler: 1 }),
+    ),
+    (
+        &[(1, 1), (1, 0), (1, 0)],
+        Some(TableFault::ZeroPenalty { handler: 1 }),
+    ),
+];
+
+/// More handlers than a table has, and as many of penalty 0.
+static MANY: [(u32, u32); 33] = [(1, 1); 33];
+
+static MANY_ZERO: [(u32, u32); 33] = [(1, 0); 33];
+
+#[test]
 fn a_table_has_at_most_32_rows_and_no_penalty_0(rt: HostRuntime) {
-    let rows = [(1, 1); 33];
-    assert!(rt; Handlers::new(&rows[..32]).is_ok());
-    assert!(rt; Handlers::new(&[]).is_ok());
-    let cases: [(&[(u32, u32)], TableFault); 3] = [
-        (&rows, TableFault::TooMany { count: 33 }),
-        (&[(60, 2), (5, 0)], TableFault::ZeroPenalty { handler: 1 }),
-        (
-            &[(1, 1), (1, 0), (1, 0)],
-            TableFault::ZeroPenalty { handler: 1 },
-        ),
-    ];
-    for (rows, fault) in cases {
-        assert!(rt; Handlers::new(rows).err() == Some(fault), "{fault}");
+    for (table, &(rows, fault)) in TABLES.iter().enumerate() {
+        assert!(rt; Handlers::new(rows).err() == fault, "table {table}");
     }
-    assert!(rt; Handlers::new(&[(1, 0); 33]).err() == Some(TableFault::TooMany { count: 33 }));
+    let too_many = Some(TableFault::TooMany { count: 33 });
+    assert!(rt; Handlers::new(&MANY[..32]).is_ok());
+    assert!(rt; Handlers::new(&MANY).err() == too_many);
+    assert!(rt; Handlers::new(&MANY_ZERO).err() == too_many);
 }
 
 #[test]
@@ -101,54 +128,61 @@ fn a_trail_is_a_state_of_the_size_of_its_colour(rt: HostRuntime) {
     assert!(rt; size_of::<TrailLog>() == size_of::<Colour>());
 }
 
-#[test]
-fn what_a_lock_keeps_counts_its_notes(rt: HostRuntime) -> Result<(), Fail> {
+/// How many notes there are before each of two events, and behind them.
+fn notes_of(alloc: Global) -> Result<[u64; 3], AllocError> {
     let mut noted = Noted {
-        events: Vec::new(rt.alloc()),
+        events: Vec::new(alloc),
     };
-    for arg in 0..2 {
-        assert!(rt; noted.notes() == u64::from(arg));
-        noted.events.push(Event { handler: 0, arg })?;
-    }
-    assert!(rt; noted.notes() == 2);
-    Ok(())
+    let none = noted.notes();
+    noted.events.push(Event { handler: 0, arg: 0 })?;
+    let one = noted.notes();
+    noted.events.push(Event { handler: 0, arg: 1 })?;
+    Ok([none, one, noted.notes()])
 }
 
 #[test]
-fn faults_print_their_cause(rt: HostRuntime) -> Result<(), Fail> {
-    let rows = [
-        (
-            TableFault::TooMany { count: 33 },
-            "a table of 33 handlers is too long",
-        ),
-        (
-            TableFault::ZeroPenalty { handler: 1 },
-            "the penalty of handler 1 is 0",
-        ),
-    ];
-    for (fault, text) in rows {
-        assert!(rt; fault.to_string(rt.alloc())?.as_str() == text, "{text}");
-    }
-    assert!(rt; Memory.to_string(rt.alloc())?.as_str() == "there was no memory");
-    Ok(())
+fn what_a_lock_keeps_counts_its_notes(rt: HostRuntime) {
+    assert!(rt; notes_of(rt.alloc()) == Ok([0, 1, 2]));
 }
 
+/// Faults of a table, and how each prints.
+static FAULTS: [(TableFault, &str); 2] = [
+    (
+        TableFault::TooMany { count: 33 },
+        "a table of 33 handlers is too long",
+    ),
+    (
+        TableFault::ZeroPenalty { handler: 1 },
+        "the penalty of handler 1 is 0",
+    ),
+];
+
 #[test]
-fn refusals_print_their_cause(rt: HostRuntime) -> Result<(), Fail> {
-    let there = There {
-        mark: Mark {
-            colour: Colour(2),
-            started: 0,
-            worth: 30,
-        },
-    };
-    assert!(rt; there.to_string(rt.alloc())?.as_str() == "there is a mark of colour 2 already");
-    let unregistered = Unregistered {
-        event: Event { handler: 0, arg: 0 },
-        load: Some(7u32),
-    };
-    assert!(rt;
-        unregistered.to_string(rt.alloc())?.as_str() == "there was no memory to register an event"
-    );
-    Ok(())
+fn faults_print_their_cause(rt: HostRuntime) {
+    for (fault, text) in &FAULTS {
+        assert!(rt; is_printed(rt.alloc(), fault, text) == Ok(true), "{text}");
+    }
+    assert!(rt; is_printed(rt.alloc(), &Memory, "there was no memory") == Ok(true));
+}
+
+/// A refusal of a mark, and one of a registration.
+static THERE: There = There {
+    mark: Mark {
+        colour: Colour(2),
+        started: 0,
+        worth: 30,
+    },
+};
+
+static UNREGISTERED: Unregistered<u32> = Unregistered {
+    event: Event { handler: 0, arg: 0 },
+    load: Some(7),
+};
+
+#[test]
+fn refusals_print_their_cause(rt: HostRuntime) {
+    let text = "there is a mark of colour 2 already";
+    assert!(rt; is_printed(rt.alloc(), &THERE, text) == Ok(true));
+    let text = "there was no memory to register an event";
+    assert!(rt; is_printed(rt.alloc(), &UNREGISTERED, text) == Ok(true));
 }

@@ -3,9 +3,8 @@ use mely_history::{
     Entry, History, Judged, MAX_ENTRIES, MAX_NOTES, NoSteal, NoTake, Setup, SetupFault, Shape,
     judge,
 };
-use std::alloc::Global;
-use std::process::Abort;
-use std::test::Fail;
+use std::alloc::{AllocError, Global};
+use std::fmt::Display;
 
 /// The greatest numbers of a setup.
 const MOST: Shape = Shape {
@@ -25,194 +24,249 @@ const LEAST: Shape = Shape {
     group: 1,
 };
 
-/// Two cores, one shard, batch 1 and cost 15, with two handlers of weight 10.
-fn small(rt: &HostRuntime) -> Result<Setup, Fail> {
-    let shape = Shape {
-        cores: 2,
-        shards: 1,
-        batch: 1,
-        steal_cost: 15,
-        group: 4,
-    };
-    let handlers = Handlers::new(&[(10, 1), (10, 1)]).ok().ok_or("no table")?;
-    Ok(Setup::new(&shape, 2, handlers, 0).ok().ok_or("no setup")?)
+/// Two cores, one shard, batch 1 and cost 15.
+const SMALL: Shape = Shape {
+    cores: 2,
+    shards: 1,
+    batch: 1,
+    steal_cost: 15,
+    group: 4,
+};
+
+/// Two handlers of weight 10, and one of weight 20.
+const TWO_OF_TEN: &[(u32, u32)] = &[(10, 1), (10, 1)];
+
+const ONE_OF_TWENTY: &[(u32, u32)] = &[(20, 1)];
+
+/// The small setup of two colours with these handlers, of which colours so many are pinned.
+fn small(handlers: &[(u32, u32)], pinned: u32) -> Option<Setup> {
+    let handlers = Handlers::new(handlers).ok()?;
+    Setup::new(&SMALL, 2, handlers, pinned).ok()
 }
 
-fn reg(colour: u16, handler: u8, arg: u16, by: u16) -> Entry {
-    Entry::Reg {
-        colour: Colour(colour),
-        event: Event { handler, arg },
-        by,
+/// An entry with its colour, and what stands with it.
+#[derive(Clone, Copy)]
+enum Row {
+    /// A registration of an event of this handler and argument by a pass.
+    Reg(u16, u8, u16, u16),
+
+    /// A take of so many events by a core, and its finish.
+    Take(u16, u16, u16),
+    Fin(u16, u16, u16),
+
+    /// A steal, from a core by another.
+    Steal(u16, u16, u16),
+}
+
+fn entry_of(row: Row) -> Entry {
+    match row {
+        Row::Reg(colour, handler, arg, by) => Entry::Reg {
+            colour: Colour(colour),
+            event: Event { handler, arg },
+            by,
+        },
+        Row::Take(colour, core, count) => Entry::Take {
+            colour: Colour(colour),
+            core,
+            count,
+        },
+        Row::Fin(colour, core, count) => Entry::Fin {
+            colour: Colour(colour),
+            core,
+            count,
+        },
+        Row::Steal(colour, from, to) => Entry::Steal {
+            colour: Colour(colour),
+            from,
+            to,
+        },
     }
 }
 
-fn take(colour: u16, core: u16, count: u16) -> Entry {
-    Entry::Take {
-        colour: Colour(colour),
-        core,
-        count,
+/// The entries of the rows.
+fn entries_of(alloc: Global, rows: &[Row]) -> Result<Vec<Entry>, AllocError> {
+    let mut entries = Vec::new(alloc);
+    for &row in rows {
+        entries.push(entry_of(row))?;
+    }
+    Ok(entries)
+}
+
+/// How a history of these rows is judged under the small setup.
+fn judged_under(
+    alloc: Global,
+    handlers: &[(u32, u32)],
+    pinned: u32,
+    rows: &[Row],
+) -> Result<Option<Judged>, AllocError> {
+    let history = entries_of(alloc, rows)?;
+    match small(handlers, pinned) {
+        Some(setup) => Ok(Some(judge(&setup, &history))),
+        None => Ok(None),
     }
 }
 
-fn fin(colour: u16, core: u16, count: u16) -> Entry {
-    Entry::Fin {
-        colour: Colour(colour),
-        core,
-        count,
+/// How a history of these rows is judged where nothing is pinned.
+fn judged(alloc: Global, rows: &[Row]) -> Result<Option<Judged>, AllocError> {
+    judged_under(alloc, TWO_OF_TEN, 0, rows)
+}
+
+/// A worked history, and what it is without its third entry.
+static WORKED: [(&[Row], Judged); 3] = [
+    (
+        &[
+            Row::Reg(0, 1, 1, 2),
+            Row::Reg(1, 0, 0, 2),
+            Row::Take(0, 0, 1),
+            Row::Reg(1, 0, 0, 0),
+            Row::Take(1, 1, 1),
+            Row::Fin(1, 1, 1),
+            Row::Fin(0, 0, 1),
+        ],
+        Judged::Legal,
+    ),
+    (
+        &[
+            Row::Reg(0, 1, 1, 2),
+            Row::Reg(1, 0, 0, 2),
+            Row::Reg(1, 0, 0, 0),
+            Row::Take(1, 1, 1),
+            Row::Fin(1, 1, 1),
+            Row::Fin(0, 0, 1),
+        ],
+        Judged::NotAllowed { at: 5 },
+    ),
+    (&[], Judged::Legal),
+];
+
+#[test]
+fn the_worked_history_is_legal_and_its_take_is_needed(rt: HostRuntime) {
+    for &(rows, want) in &WORKED {
+        assert!(rt; judged(rt.alloc(), rows) == Ok(Some(want)));
     }
 }
 
-fn steal(colour: u16, from: u16, to: u16) -> Entry {
-    Entry::Steal {
-        colour: Colour(colour),
-        from,
-        to,
+/// Two events wait on colour 1, which core 1 owns, and one was run on colour 0, where nothing waits.
+static BEFORE: [Row; 5] = [
+    Row::Reg(1, 0, 0, 2),
+    Row::Reg(1, 1, 0, 2),
+    Row::Reg(0, 0, 0, 2),
+    Row::Take(0, 0, 1),
+    Row::Fin(0, 0, 1),
+];
+
+/// How a history of these rows with one more behind them is judged.
+fn judged_with(alloc: Global, row: Row) -> Result<Option<Judged>, AllocError> {
+    judged(alloc, &[BEFORE.as_slice(), &[row]].concat(alloc)?)
+}
+
+/// What is not allowed there.
+static REFUSED: [(&str, Row); 11] = [
+    ("a colour that is not there", Row::Reg(2, 0, 0, 0)),
+    ("a handler that is not there", Row::Reg(1, 2, 0, 0)),
+    ("a take by another core", Row::Take(1, 0, 1)),
+    ("a take of more than the batch", Row::Take(1, 1, 2)),
+    ("a take of nothing", Row::Take(0, 0, 0)),
+    ("a finish of what does not run", Row::Fin(1, 1, 1)),
+    ("a second finish", Row::Fin(0, 0, 1)),
+    ("a steal from another than the owner", Row::Steal(1, 0, 1)),
+    ("a steal to the owner", Row::Steal(1, 1, 1)),
+    ("a steal to no core", Row::Steal(1, 1, 2)),
+    ("a steal of an empty colour", Row::Steal(0, 0, 1)),
+];
+
+#[test]
+fn each_row_of_the_table_refuses_what_it_should(rt: HostRuntime) {
+    for &(what, row) in &REFUSED {
+        let at_last = Ok(Some(Judged::NotAllowed { at: 5 }));
+        assert!(rt; judged_with(rt.alloc(), row) == at_last, "{what}");
     }
 }
 
-#[test]
-fn the_worked_history_is_legal_and_its_take_is_needed(rt: HostRuntime) -> Result<(), Fail> {
-    let setup = small(&rt)?;
-    let history = [
-        reg(0, 1, 1, 2),
-        reg(1, 0, 0, 2),
-        take(0, 0, 1),
-        reg(1, 0, 0, 0),
-        take(1, 1, 1),
-        fin(1, 1, 1),
-        fin(0, 0, 1),
-    ];
-    assert!(rt; judge(&setup, &history) == Judged::Legal);
-    let without = [
-        history[0], history[1], history[3], history[4], history[5], history[6],
-    ];
-    assert!(rt; judge(&setup, &without) == Judged::NotAllowed { at: 5 });
-    assert!(rt; judge(&setup, &[]) == Judged::Legal);
-    Ok(())
-}
-
-/// An entry is refused where two events wait on colour 1, which core 1 owns, and one was run on
-/// colour 0, where nothing waits.
-fn is_refused(rt: &impl Abort, setup: &Setup, what: &str, entry: Entry) {
-    let history = [
-        reg(1, 0, 0, 2),
-        reg(1, 1, 0, 2),
-        reg(0, 0, 0, 2),
-        take(0, 0, 1),
-        fin(0, 0, 1),
-        entry,
-    ];
-    assert!(rt;
-        judge(setup, &history) == Judged::NotAllowed { at: 5 },
-        "{what}"
-    );
-}
-
-#[test]
-fn each_row_of_the_table_refuses_what_it_should(rt: HostRuntime) -> Result<(), Fail> {
-    let setup = small(&rt)?;
-    is_refused(&rt, &setup, "a colour that is not there", reg(2, 0, 0, 0));
-    is_refused(&rt, &setup, "a handler that is not there", reg(1, 2, 0, 0));
-    is_refused(&rt, &setup, "a take by another core", take(1, 0, 1));
-    is_refused(&rt, &setup, "a take of more than the batch", take(1, 1, 2));
-    is_refused(&rt, &setup, "a take of nothing", take(0, 0, 0));
-    is_refused(&rt, &setup, "a finish of what does not run", fin(1, 1, 1));
-    is_refused(&rt, &setup, "a second finish", fin(0, 0, 1));
-    is_refused(
-        &rt,
-        &setup,
-        "a steal from another than the owner",
-        steal(1, 0, 1),
-    );
-    is_refused(&rt, &setup, "a steal to the owner", steal(1, 1, 1));
-    is_refused(&rt, &setup, "a steal to no core", steal(1, 1, 2));
-    is_refused(&rt, &setup, "a steal of an empty colour", steal(0, 0, 1));
-    Ok(())
-}
+/// Histories whose last entry is not allowed: two events wait on colour 1, which core 1 owns.
+static RUNNING: [(&str, &[Row], usize); 4] = [
+    (
+        "a take while it runs",
+        &[
+            Row::Reg(1, 0, 0, 2),
+            Row::Reg(1, 1, 0, 2),
+            Row::Steal(1, 1, 0),
+            Row::Take(1, 0, 1),
+            Row::Take(1, 0, 1),
+        ],
+        4,
+    ),
+    (
+        "a steal while it runs",
+        &[
+            Row::Reg(1, 0, 0, 2),
+            Row::Reg(1, 1, 0, 2),
+            Row::Reg(1, 0, 0, 2),
+            Row::Take(1, 1, 1),
+            Row::Steal(1, 1, 0),
+        ],
+        4,
+    ),
+    (
+        "a finish by another core",
+        &[
+            Row::Reg(1, 0, 0, 2),
+            Row::Reg(1, 1, 0, 2),
+            Row::Take(1, 1, 1),
+            Row::Fin(1, 0, 1),
+        ],
+        3,
+    ),
+    (
+        "a steal below the cost",
+        &[Row::Reg(1, 0, 0, 2), Row::Steal(1, 1, 0)],
+        1,
+    ),
+];
 
 #[test]
-fn a_running_colour_is_let_alone_by_others(rt: HostRuntime) -> Result<(), Fail> {
-    let setup = small(&rt)?;
-    // two events wait on colour 1, which core 1 owns
-    let before = [reg(1, 0, 0, 2), reg(1, 1, 0, 2)];
-    let stolen = [
-        before[0],
-        before[1],
-        steal(1, 1, 0),
-        take(1, 0, 1),
-        take(1, 0, 1),
-    ];
-    assert!(rt;
-        judge(&setup, &stolen) == Judged::NotAllowed { at: 4 },
-        "a take while it runs"
-    );
-    let running = [
-        before[0],
-        before[1],
-        before[0],
-        take(1, 1, 1),
-        steal(1, 1, 0),
-    ];
-    assert!(rt;
-        judge(&setup, &running) == Judged::NotAllowed { at: 4 },
-        "a steal while it runs"
-    );
-    let other = [before[0], before[1], take(1, 1, 1), fin(1, 0, 1)];
-    assert!(rt;
-        judge(&setup, &other) == Judged::NotAllowed { at: 3 },
-        "a finish by another core"
-    );
-    Ok(())
-}
-
-#[test]
-fn a_colour_below_the_cost_is_not_stolen(rt: HostRuntime) -> Result<(), Fail> {
-    let setup = small(&rt)?;
-    let cheap = [reg(1, 0, 0, 2), steal(1, 1, 0)];
-    assert!(rt;
-        judge(&setup, &cheap) == Judged::NotAllowed { at: 1 },
-        "a steal below the cost"
-    );
-    Ok(())
-}
-
-#[test]
-fn a_pinned_colour_is_never_stolen(rt: HostRuntime) -> Result<(), Fail> {
-    let shape = Shape {
-        cores: 2,
-        shards: 1,
-        batch: 1,
-        steal_cost: 15,
-        group: 4,
-    };
-    let handlers = Handlers::new(&[(20, 1)]).ok().ok_or("no table")?;
-    let history = [
-        reg(0, 0, 0, 2),
-        reg(1, 0, 0, 2),
-        steal(1, 1, 0),
-        steal(0, 0, 1),
-    ];
-    for (pinned, judged) in [
-        (0, Judged::Legal),
-        (1, Judged::NotAllowed { at: 3 }),
-        (2, Judged::NotAllowed { at: 2 }),
-    ] {
-        let setup = Setup::new(&shape, 2, handlers, pinned)
-            .ok()
-            .ok_or("no setup")?;
-        assert!(rt; judge(&setup, &history) == judged, "{pinned} are pinned");
+fn a_colour_that_runs_or_is_cheap_is_let_alone_by_others(rt: HostRuntime) {
+    for &(what, rows, at) in &RUNNING {
+        let want = Ok(Some(Judged::NotAllowed { at }));
+        assert!(rt; judged(rt.alloc(), rows) == want, "{what}");
     }
-    Ok(())
 }
+
+/// A history in which both colours are stolen.
+static STOLEN: [Row; 4] = [
+    Row::Reg(0, 0, 0, 2),
+    Row::Reg(1, 0, 0, 2),
+    Row::Steal(1, 1, 0),
+    Row::Steal(0, 0, 1),
+];
+
+/// How many colours are pinned, and how it is judged then.
+static PINNED: [(u32, Judged); 3] = [
+    (0, Judged::Legal),
+    (1, Judged::NotAllowed { at: 3 }),
+    (2, Judged::NotAllowed { at: 2 }),
+];
+
+#[test]
+fn a_pinned_colour_is_never_stolen(rt: HostRuntime) {
+    for &(pinned, want) in &PINNED {
+        let judged = judged_under(rt.alloc(), ONE_OF_TWENTY, pinned, &STOLEN);
+        assert!(rt; judged == Ok(Some(want)), "{pinned} are pinned");
+    }
+}
+
+/// Entries of colour 3, and the pass of each.
+static PASSES: [(Row, u16); 4] = [
+    (Row::Reg(3, 0, 0, 5), 5),
+    (Row::Take(3, 1, 2), 1),
+    (Row::Fin(3, 1, 2), 1),
+    (Row::Steal(3, 1, 0), 0),
+];
 
 #[test]
 fn an_entry_tells_its_colour_and_its_pass(rt: HostRuntime) {
-    for (entry, pass) in [
-        (reg(3, 0, 0, 5), 5),
-        (take(3, 1, 2), 1),
-        (fin(3, 1, 2), 1),
-        (steal(3, 1, 0), 0),
-    ] {
+    for &(row, pass) in &PASSES {
+        let entry = entry_of(row);
         assert!(rt; entry.colour() == Colour(3), "pass {pass}");
         assert!(rt; entry.pass() == pass, "pass {pass}");
     }
@@ -233,88 +287,87 @@ fn numbers_of(setup: &Setup) -> [usize; 8] {
     ]
 }
 
-/// Where a colour stands: its shard, and its place there.
-fn home_of(setup: &Setup, colour: u16) -> [usize; 2] {
-    [
-        setup.shard_of(Colour(colour)),
-        setup.place_of(Colour(colour)),
-    ]
-}
-
-#[test]
-fn a_setup_is_made_at_the_limits(rt: HostRuntime) -> Result<(), Fail> {
-    let handlers = Handlers::new(&[(60, 2)]).ok().ok_or("no table")?;
-    assert!(rt; Setup::new(&LEAST, 1, handlers, 1).is_ok());
-    let setup = Setup::new(&MOST, 65_536, handlers, 3)
-        .ok()
-        .ok_or("no setup")?;
-    assert!(rt; numbers_of(&setup) == [64, 64, 1_000, 7, 64, 65_536, 3, 1]);
-    assert!(rt; home_of(&setup, 65_535) == [63, 1_023]);
-    Ok(())
-}
-
-#[test]
-fn a_setup_just_beyond_the_limits_is_refused(rt: HostRuntime) -> Result<(), Fail> {
-    let handlers = Handlers::new(&[(60, 2)]).ok().ok_or("no table")?;
-    let cases = [
-        (Shape { cores: 0, ..MOST }, 1, 1),
-        (
-            Shape {
-                cores: 65,
-                shards: 0,
-                ..MOST
-            },
-            1,
-            1,
-        ),
-        (Shape { shards: 0, ..MOST }, 1, 2),
-        (Shape { shards: 65, ..MOST }, 0, 2),
-        (MOST, 0, 3),
-        (Shape { batch: 0, ..MOST }, 65_537, 3),
-        (Shape { batch: 0, ..MOST }, 1, 4),
-        (
-            Shape {
-                batch: 1_001,
-                group: 0,
-                ..MOST
-            },
-            1,
-            4,
-        ),
-        (Shape { group: 0, ..MOST }, 1, 5),
-        (Shape { group: 65, ..MOST }, 1, 5),
-    ];
-    for (shape, colours, field) in cases {
-        assert!(rt;
-            Setup::new(&shape, colours, handlers, 0).err()
-                == Some(SetupFault::OutOfRange { field }),
-            "{colours} colours, number {field}"
-        );
+/// The setup of a shape with one handler.
+fn setup_of(shape: &Shape, colours: u32, pinned: u32) -> Result<Setup, Option<SetupFault>> {
+    match Handlers::new(&[(60, 2)]) {
+        Ok(handlers) => Setup::new(shape, colours, handlers, pinned).map_err(Some),
+        Err(_) => Err(None),
     }
-    Ok(())
+}
+
+/// Whether the greatest setup has these numbers, and this shard and place of its last colour.
+fn is_greatest(numbers: [usize; 8], shard: usize, place: usize) -> bool {
+    let Ok(setup) = setup_of(&MOST, 65_536, 3) else {
+        return false;
+    };
+    let last = Colour(65_535);
+    numbers_of(&setup) == numbers && (setup.shard_of(last), setup.place_of(last)) == (shard, place)
 }
 
 #[test]
-fn all_colours_may_be_pinned_and_no_more(rt: HostRuntime) -> Result<(), Fail> {
-    let handlers = Handlers::new(&[(60, 2)]).ok().ok_or("no table")?;
-    assert!(rt; Setup::new(&LEAST, 4, handlers, 4).is_ok());
-    for (shape, field) in [(LEAST, 6), (Shape { group: 0, ..LEAST }, 5)] {
-        assert!(rt;
-            Setup::new(&shape, 4, handlers, 5).err() == Some(SetupFault::OutOfRange { field }),
-            "number {field}"
-        );
+fn a_setup_is_made_at_the_limits(rt: HostRuntime) {
+    assert!(rt; setup_of(&LEAST, 1, 1).is_ok());
+    assert!(rt; setup_of(&LEAST, 4, 4).is_ok());
+    assert!(rt; is_greatest([64, 64, 1_000, 7, 64, 65_536, 3, 1], 63, 1_023));
+}
+
+/// Shapes with a number of colours and of pinned ones, and which number of them is the first that is
+/// out of range.
+static BEYOND: [(Shape, u32, u32, u8); 12] = [
+    (Shape { cores: 0, ..MOST }, 1, 0, 1),
+    (
+        Shape {
+            cores: 65,
+            shards: 0,
+            ..MOST
+        },
+        1,
+        0,
+        1,
+    ),
+    (Shape { shards: 0, ..MOST }, 1, 0, 2),
+    (Shape { shards: 65, ..MOST }, 0, 0, 2),
+    (MOST, 0, 0, 3),
+    (Shape { batch: 0, ..MOST }, 65_537, 0, 3),
+    (Shape { batch: 0, ..MOST }, 1, 0, 4),
+    (
+        Shape {
+            batch: 1_001,
+            group: 0,
+            ..MOST
+        },
+        1,
+        0,
+        4,
+    ),
+    (Shape { group: 0, ..MOST }, 1, 0, 5),
+    (Shape { group: 65, ..MOST }, 1, 0, 5),
+    // more are pinned than there are
+    (LEAST, 4, 5, 6),
+    (Shape { group: 0, ..LEAST }, 4, 5, 5),
+];
+
+#[test]
+fn a_setup_just_beyond_the_limits_is_refused(rt: HostRuntime) {
+    for &(shape, colours, pinned, field) in &BEYOND {
+        let fault = setup_of(&shape, colours, pinned).err();
+        let want = Some(Some(SetupFault::OutOfRange { field }));
+        assert!(rt; fault == want, "{colours} colours, number {field}");
     }
-    Ok(())
 }
 
-#[test]
-fn a_setup_lists_histories_where_it_is_asked_to(rt: HostRuntime) -> Result<(), Fail> {
-    let setup = small(&rt)?;
-    assert!(rt; !setup.is_listed());
+/// Whether the small setup lists histories where it is asked to, and only there.
+fn is_listed_where_asked() -> bool {
+    let Some(setup) = small(TWO_OF_TEN, 0) else {
+        return false;
+    };
     let listed = setup.listed();
-    assert!(rt; listed.is_listed());
-    assert!(rt; numbers_of(&listed) == numbers_of(&setup));
-    Ok(())
+    !setup.is_listed() && listed.is_listed() && numbers_of(&listed) == numbers_of(&setup)
+}
+
+#[test]
+fn a_setup_lists_histories_where_it_is_asked_to(rt: HostRuntime) {
+    assert!(rt; is_listed_where_asked());
 }
 
 /// A history of these entries, each of which found room.
@@ -327,74 +380,92 @@ fn history_of(alloc: Global, listed: bool, entries: &[Entry]) -> Result<History,
     Ok(history)
 }
 
-#[test]
-fn a_history_is_read_where_it_is_listed(rt: HostRuntime) -> Result<(), Fail> {
-    let written = [reg(0, 0, 0, 2), take(0, 0, 1)];
-    for (listed, shown) in [(false, None), (true, Some(written.as_slice()))] {
-        let history = history_of(rt.alloc(), listed, &written)
-            .ok()
-            .ok_or("no history")?;
-        assert!(rt; history.len() == 2, "listed: {listed}");
-        assert!(rt; history.entries() == shown, "listed: {listed}");
-        match history.into_entries() {
-            Some(list) => assert!(rt; shown == Some(list.as_slice())),
-            None => assert!(rt; shown == None),
-        }
-    }
-    Ok(())
+/// Two entries.
+static WRITTEN: [Row; 2] = [Row::Reg(0, 0, 0, 2), Row::Take(0, 0, 1)];
+
+/// Whether a history of the two entries has two, and shows them where it is listed, and not otherwise.
+fn is_read(alloc: Global, listed: bool) -> Result<bool, Memory> {
+    let written = entries_of(alloc, &WRITTEN)?;
+    let shown = listed.then_some(written.as_slice());
+    let history = history_of(alloc, listed, &written)?;
+    let is_shown = history.len() == 2 && history.entries() == shown;
+    let is_given = match history.into_entries() {
+        Some(list) => shown == Some(list.as_slice()),
+        None => shown == None,
+    };
+    Ok(is_shown && is_given)
 }
 
 #[test]
-fn a_history_has_room_up_to_its_limit(rt: HostRuntime) -> Result<(), Fail> {
-    for (listed, most) in [(false, MAX_NOTES), (true, MAX_ENTRIES)] {
-        let mut history = history_of(rt.alloc(), listed, &[steal(1, 1, 0)])
-            .ok()
-            .ok_or("no history")?;
-        assert!(rt; history.reserve(most) == Err(Memory), "listed: {listed}");
-        assert!(rt; history.reserve(9) == Ok(()), "listed: {listed}");
-        assert!(rt; history.len() == 1, "listed: {listed}");
-    }
-    let mut unlisted = History::new(rt.alloc(), false);
-    assert!(rt; unlisted.reserve(MAX_NOTES) == Ok(()));
-    Ok(())
+fn a_history_is_read_where_it_is_listed(rt: HostRuntime) {
+    assert!(rt; is_read(rt.alloc(), false) == Ok(true));
+    assert!(rt; is_read(rt.alloc(), true) == Ok(true), "listed");
+}
+
+/// Whether a history of one entry has no room for so many more, and still room for nine.
+fn has_room_up_to(alloc: Global, listed: bool, most: u64) -> Result<bool, Memory> {
+    let mut history = history_of(alloc, listed, &[entry_of(Row::Steal(1, 1, 0))])?;
+    Ok(history.reserve(most) == Err(Memory) && history.reserve(9) == Ok(()) && history.len() == 1)
+}
+
+/// Whether a history without entries has room for so many.
+fn has_room_for(alloc: Global, most: u64) -> bool {
+    History::new(alloc, false).reserve(most) == Ok(())
 }
 
 #[test]
-fn refusals_print_their_cause(rt: HostRuntime) -> Result<(), Fail> {
-    let takes = [
-        (NoTake::Elsewhere { owner: 3 }, "the colour is core 3's"),
-        (NoTake::Busy { core: 2 }, "the colour runs on core 2"),
-        (
-            NoTake::Empty { registered: 7 },
-            "none of 7 events of the colour waits",
-        ),
-        (NoTake::Memory, "there was no memory"),
-    ];
-    for (why, text) in takes {
-        assert!(rt; why.to_string(rt.alloc())?.as_str() == text, "{text}");
-    }
-    let steals = [
-        (NoSteal::Pinned { colour: Colour(1) }, "colour 1 is pinned"),
-        (NoSteal::Own, "the core owns the colour already"),
-        (NoSteal::Busy { core: 2 }, "the colour runs on core 2"),
-        (
-            NoSteal::Empty { registered: 0 },
-            "none of 0 events of the colour waits",
-        ),
-        (
-            NoSteal::Cheap { worth: 20 },
-            "a time left of 20 is not worth a steal",
-        ),
-        (NoSteal::Memory, "there was no memory"),
-    ];
-    for (why, text) in steals {
-        assert!(rt; why.to_string(rt.alloc())?.as_str() == text, "{text}");
-    }
+fn a_history_has_room_up_to_its_limit(rt: HostRuntime) {
+    assert!(rt; has_room_up_to(rt.alloc(), false, MAX_NOTES) == Ok(true));
     assert!(rt;
-        SetupFault::OutOfRange { field: 3 }
-            .to_string(rt.alloc())?
-            .as_str()
-            == "number 3 of the setup is out of range"
+        has_room_up_to(rt.alloc(), true, MAX_ENTRIES) == Ok(true),
+        "listed"
     );
-    Ok(())
+    assert!(rt; has_room_for(rt.alloc(), MAX_NOTES));
+}
+
+/// Whether a refusal prints so.
+pub(super) fn is_printed<T: Display>(
+    alloc: Global,
+    refusal: &T,
+    text: &str,
+) -> Result<bool, AllocError> {
+    Ok(refusal.to_string(alloc)?.as_str() == text)
+}
+
+static NO_TAKES: [(NoTake, &str); 4] = [
+    (NoTake::Elsewhere { owner: 3 }, "the colour is core 3's"),
+    (NoTake::Busy { core: 2 }, "the colour runs on core 2"),
+    (
+        NoTake::Empty { registered: 7 },
+        "none of 7 events of the colour waits",
+    ),
+    (NoTake::Memory, "there was no memory"),
+];
+
+static NO_STEALS: [(NoSteal, &str); 6] = [
+    (NoSteal::Pinned { colour: Colour(1) }, "colour 1 is pinned"),
+    (NoSteal::Own, "the core owns the colour already"),
+    (NoSteal::Busy { core: 2 }, "the colour runs on core 2"),
+    (
+        NoSteal::Empty { registered: 0 },
+        "none of 0 events of the colour waits",
+    ),
+    (
+        NoSteal::Cheap { worth: 20 },
+        "a time left of 20 is not worth a steal",
+    ),
+    (NoSteal::Memory, "there was no memory"),
+];
+
+#[test]
+fn refusals_print_their_cause(rt: HostRuntime) {
+    for (refusal, text) in &NO_TAKES {
+        assert!(rt; is_printed(rt.alloc(), refusal, text) == Ok(true), "{text}");
+    }
+    for (refusal, text) in &NO_STEALS {
+        assert!(rt; is_printed(rt.alloc(), refusal, text) == Ok(true), "{text}");
+    }
+    let fault = SetupFault::OutOfRange { field: 3 };
+    let text = "number 3 of the setup is out of range";
+    assert!(rt; is_printed(rt.alloc(), &fault, text) == Ok(true));
 }

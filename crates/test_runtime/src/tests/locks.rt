@@ -7,7 +7,6 @@ use mely_event::{Kept, Memory};
 use mely_lock::{Held, Pass, Ticketed};
 use std::alloc::Global;
 use std::sync::Wait;
-use std::test::Fail;
 use std::thread;
 use std::thread::Threads;
 
@@ -98,19 +97,32 @@ fn look<R: Wait>(rt: &R, lock: &Ticketed<Diary>, pass: &mut Pass<Diary>) -> u64
     found
 }
 
-#[test]
-fn a_pass_finds_what_another_has_noted(rt: HostRuntime) -> Result<(), Fail> {
-    let (lock, mut passes) = Ticketed::new(rt.alloc(), Diary::new(rt.alloc(), 3), 2)?;
-    assert!(rt; passes.len() == 2);
-    assert!(rt; (passes[0].number(), passes[0].seen()) == (0, 0));
-    assert!(rt; (passes[1].number(), passes[1].seen()) == (1, 0));
-    assert!(rt; write(&rt, &lock, &mut passes[0], 0).is_ok());
-    assert!(rt; (passes[0].seen(), passes[1].seen()) == (1, 0));
-    assert!(rt; look(&rt, &lock, &mut passes[1]) == 1);
-    assert!(rt; passes[1].seen() == 1);
+/// Whether a pass finds the line that another has written, and the diary has it in the end.
+fn is_found<R: Wait>(rt: &R, alloc: Global) -> Result<bool, Memory> {
+    let (lock, mut passes) = Ticketed::new(alloc, Diary::new(alloc, 3), 2)?;
+    let is_written = write(rt, &lock, &mut passes[0], 0).is_ok();
+    let before = (passes[0].seen(), passes[1].seen());
+    let found = look(rt, &lock, &mut passes[1]);
+    let after = passes[1].seen();
     let diary = lock.close(passes);
-    assert!(rt; (diary.lines.len(), diary.ink) == (1, 3));
-    Ok(())
+    let is_seen = before == (1, 0) && found == 1 && after == 1;
+    Ok(is_written && is_seen && (diary.lines.len(), diary.ink) == (1, 3))
+}
+
+/// Whether two passes are numbered, and have seen nothing at first.
+fn are_numbered(alloc: Global) -> Result<bool, Memory> {
+    let (lock, passes) = Ticketed::new(alloc, Diary::new(alloc, 3), 2)?;
+    let count = passes.len();
+    let first = (passes[0].number(), passes[0].seen());
+    let second = (passes[1].number(), passes[1].seen());
+    lock.close(passes);
+    Ok(count == 2 && first == (0, 0) && second == (1, 0))
+}
+
+#[test]
+fn a_pass_finds_what_another_has_noted(rt: HostRuntime) {
+    assert!(rt; are_numbered(rt.alloc()) == Ok(true));
+    assert!(rt; is_found(&rt, rt.alloc()) == Ok(true));
 }
 
 /// Writes as many lines, one after another.
@@ -164,23 +176,30 @@ fn has_each_in_order(diary: &Diary, next: &mut [u64], count: u64) -> bool {
     next.iter().all(|turn| *turn == count)
 }
 
-#[test]
-fn lines_of_two_threads_stand_in_one_history(rt: HostRuntime) -> Result<(), Fail> {
-    let (lock, mut passes) = Ticketed::new(rt.alloc(), Diary::new(rt.alloc(), 3), 2)?;
-    write_from_threads(&rt, &lock, &mut passes, 2, 50);
+/// Whether so many lines of each of so many threads stand in one history, and are so many in all.
+fn stand_in_one<R: Threads + Wait + Sync>(
+    rt: &R,
+    alloc: Global,
+    threads: u16,
+    count: u64,
+    lines: usize,
+) -> Result<bool, Memory>
+    requires { 0 < threads }
+{
+    let (lock, mut passes) = Ticketed::new(alloc, Diary::new(alloc, 3), threads)?;
+    write_from_threads(rt, &lock, &mut passes, usize::from(threads), count);
     let diary = lock.close(passes);
-    assert!(rt; has_each_in_order(&diary, &mut [0; 2], 50));
-    Ok(())
+    let mut turns = vec![in alloc; 0; usize::from(threads)]?;
+    Ok(diary.lines.len() == lines && has_each_in_order(&diary, &mut turns, count))
 }
 
 #[test]
-fn eight_threads_write_ten_thousand_lines_each(rt: HostRuntime) -> Result<(), Fail> {
-    let (lock, mut passes) = Ticketed::new(rt.alloc(), Diary::new(rt.alloc(), 3), 8)?;
-    write_from_threads(&rt, &lock, &mut passes, 8, 10_000);
-    let diary = lock.close(passes);
-    assert!(rt; diary.lines.len() == 80_000);
-    assert!(rt; has_each_in_order(&diary, &mut [0; 8], 10_000));
-    Ok(())
+fn lines_of_threads_stand_in_one_history(rt: HostRuntime) {
+    assert!(rt; stand_in_one(&rt, rt.alloc(), 2, 50, 100) == Ok(true));
+    assert!(rt;
+        stand_in_one(&rt, rt.alloc(), 8, 10_000, 80_000) == Ok(true),
+        "eight threads"
+    );
 }
 
 fn may_cross<T: Send>(_value: &T) {}

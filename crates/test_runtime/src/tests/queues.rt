@@ -1,25 +1,24 @@
 //! A queue and a turn with ample memory.
-ghost use Rattle.std.specs.Prelude.{◌≡◌, [], length};
+ghost use Rattle.std.specs.Prelude.{◌≡◌, [], IfSome, length};
 
 use mely_event::{Colour, Event, Fits, Logged, TrailLog};
 use mely_queue::{ColourQueue, Turn};
 use std::alloc::Global;
-use std::process::Abort;
-use std::test::Fail;
 
 const FIRST: Event = Event { handler: 0, arg: 7 };
 
 const SECOND: Event = Event { handler: 1, arg: 8 };
 
-/// A queue of the two events, the first of weight 30 with a load, the second of weight 80.
-fn two_queued(rt: &impl Abort, alloc: Global) -> ColourQueue<u8>
-    ensures events { length result.events ≡ 2 }
-    ensures first { (result.started ≡ 0) × (result.finished ≡ 0) }
+/// A queue of the two events, the first of weight 30 with a load, the second of weight 80; or none
+/// where one of them isn't registered.
+fn two_queued(alloc: Global) -> Option<ColourQueue<u8>>
+    ensures events { IfSome result (λ queue. length queue.events ≡ 2) }
+    ensures first { IfSome result (λ queue. (queue.started ≡ 0) × (queue.finished ≡ 0)) }
 {
     let mut queue = ColourQueue::new(alloc);
-    assert!(rt; queue.push(FIRST, Some(1), 30).is_ok());
-    assert!(rt; queue.push(SECOND, None, 80).is_ok());
-    queue
+    queue.push(FIRST, Some(1), 30).ok()?;
+    queue.push(SECOND, None, 80).ok()?;
+    Some(queue)
 }
 
 /// Whether a queue has this time left and so many events, of which so many were registered, started
@@ -34,19 +33,21 @@ fn are(events: &[(Event, Option<u8>)], event: Event, load: Option<u8>) -> bool {
     events == [(event, load)].as_slice()
 }
 
-#[test]
-fn the_time_left_falls_as_the_first_event_is_taken(rt: HostRuntime) -> Result<(), Fail> {
-    let mut queue = two_queued(&rt, rt.alloc());
-    assert!(rt; has(&queue, 110, 2, [2, 0, 0]));
-    match queue.take_up_to(1) {
-        Ok(events) => assert!(rt; are(&events, FIRST, Some(1))),
-        Err(_) => assert!(rt; false),
-    }
-    assert!(rt; has(&queue, 80, 1, [2, 1, 0]));
+/// What a queue of the two events has at first, after a take of the first of them, and after its
+/// finish.
+fn falls(alloc: Global) -> Option<bool> {
+    let mut queue = two_queued(alloc)?;
+    let is_new = has(&queue, 110, 2, [2, 0, 0]);
+    let taken = queue.take_up_to(1).ok()?;
+    let is_taken = are(&taken, FIRST, Some(1)) && has(&queue, 80, 1, [2, 1, 0]);
     queue.finish(1);
-    assert!(rt; has(&queue, 80, 1, [2, 1, 1]));
-    assert!(rt; are(&queue.into_events(), SECOND, None));
-    Ok(())
+    let is_finished = has(&queue, 80, 1, [2, 1, 1]);
+    Some(is_new && is_taken && is_finished && are(&queue.into_events(), SECOND, None))
+}
+
+#[test]
+fn the_time_left_falls_as_the_first_event_is_taken(rt: HostRuntime) {
+    assert!(rt; falls(rt.alloc()) == Some(true));
 }
 
 /// The next event of a turn and its load, through the bounds.
@@ -56,62 +57,64 @@ fn handed_out<S: Fits<u8>>(turn: &mut Turn<S, u8>) -> Option<(Event, Option<u8>)
     turn.next()
 }
 
-#[test]
-fn a_turn_hands_out_each_event_once_in_order(rt: HostRuntime) -> Result<(), Fail> {
-    let mut events = Vec::new(rt.alloc());
-    events.push((FIRST, Some(1)))?;
-    events.push((SECOND, None))?;
+/// A turn of both events on core 5 for colour 2.
+fn turn_of_two(alloc: Global) -> Option<Turn<Logged<u8>, u8>> {
     let state = Logged {
         log: TrailLog::new(Colour(2)),
         value: 0,
     };
-    let mut turn = Turn::new(Colour(2), 5, state, events);
-    assert!(rt; turn.colour() == Colour(2));
-    assert!(rt; turn.core() == 5);
-    assert!(rt; turn.count() == 2);
-    assert!(rt; handed_out(&mut turn) == Some((FIRST, Some(1))));
-    assert!(rt; turn.left() == 1);
+    let events = [(FIRST, Some(1)), (SECOND, None)].to_vec(alloc).ok()?;
+    Some(Turn::new(Colour(2), 5, state, events))
+}
+
+/// Whether a turn of both events hands each out once, in order, and its state is handed back.
+fn hands_out(alloc: Global) -> Option<bool> {
+    let mut turn = turn_of_two(alloc)?;
+    let is_new = (turn.colour(), turn.core(), turn.count()) == (Colour(2), 5, 2);
+    let is_first = handed_out(&mut turn) == Some((FIRST, Some(1))) && turn.left() == 1;
     turn.state().log.push(FIRST);
     turn.state().value = 7;
-    assert!(rt; handed_out(&mut turn) == Some((SECOND, None)));
-    assert!(rt; handed_out(&mut turn) == None);
+    let is_second = handed_out(&mut turn) == Some((SECOND, None));
+    let is_last = handed_out(&mut turn) == None;
     let state = turn.into_state();
-    assert!(rt; state.log.colour() == Colour(2));
-    assert!(rt; state.value == 7);
-    Ok(())
+    let is_back = (state.log.colour(), state.value) == (Colour(2), 7);
+    Some(is_new && is_first && is_second && is_last && is_back)
+}
+
+#[test]
+fn a_turn_hands_out_each_event_once_in_order(rt: HostRuntime) {
+    assert!(rt; hands_out(rt.alloc()) == Some(true));
 }
 
 /// A turn of the one event that a vector has hands it out, and gives the vector back with no event
 /// in it.
-fn handed_out_of(
-    rt: &impl Abort,
-    alloc: Global,
-    room: Vec<(Event, Option<u8>)>,
-) -> Vec<(Event, Option<u8>)>
+fn handed_out_of(room: Vec<(Event, Option<u8>)>) -> Option<Vec<(Event, Option<u8>)>>
     requires { length room.items ≡ 1 }
-    ensures { result.items ≡ [] }
+    ensures { IfSome result (λ room. room.items ≡ []) }
 {
-    let state = TrailLog::new(Colour(2));
-    let mut turn = Turn::new(Colour(2), 5, state, room);
-    assert!(rt; handed_out(&mut turn) == Some((FIRST, Some(1))));
+    let mut turn = Turn::new(Colour(2), 5, TrailLog::new(Colour(2)), room);
+    let is_first = handed_out(&mut turn) == Some((FIRST, Some(1)));
     let (state, room) = turn.into_parts();
-    assert!(rt; state.colour() == Colour(2));
-    assert!(rt; room.is_empty());
-    room
+    if is_first && state.colour() == Colour(2) && room.is_empty() {
+        Some(room)
+    } else {
+        None
+    }
+}
+
+/// Whether the vector of a turn serves the next.
+fn serves_again(alloc: Global) -> Option<bool> {
+    let mut queue = two_queued(alloc)?;
+    let mut room = Vec::new(alloc);
+    queue.take_into(1, &mut room).ok()?;
+    let is_first = are(&room, FIRST, Some(1)) && queue.time_left() == 80;
+    let mut room = handed_out_of(room)?;
+    let had = room.capacity();
+    queue.take_into(5, &mut room).ok()?;
+    Some(is_first && are(&room, SECOND, None) && room.capacity() == had)
 }
 
 #[test]
-fn the_vector_of_a_turn_serves_the_next(rt: HostRuntime) -> Result<(), Fail> {
-    let mut queue = two_queued(&rt, rt.alloc());
-    let mut room = Vec::new(rt.alloc());
-    assert!(rt; queue.take_into(1, &mut room).is_ok());
-    assert!(rt; are(&room, FIRST, Some(1)));
-    assert!(rt; queue.time_left() == 80);
-    assert!(rt; room.len() == 1);
-    let mut room = handed_out_of(&rt, rt.alloc(), room);
-    let had = room.capacity();
-    assert!(rt; queue.take_into(5, &mut room).is_ok());
-    assert!(rt; are(&room, SECOND, None));
-    assert!(rt; room.capacity() == had);
-    Ok(())
+fn the_vector_of_a_turn_serves_the_next(rt: HostRuntime) {
+    assert!(rt; serves_again(rt.alloc()) == Some(true));
 }

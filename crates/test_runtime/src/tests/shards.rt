@@ -3,13 +3,11 @@ ghost use Rattle.mely_history.specs.Setup.{shape_of, colours_of, handlers_of};
 ghost use Rattle.mely_shard.specs.Shard.{IsOwn, KeepsFrame, TurnStands};
 ghost use Rattle.test_runtime.specs.ShardExamples.{IsExample};
 
-use mely_event::{Colour, Event, Fits, Handlers, Trail, TrailLog};
+use mely_event::{Colour, Event, Fits, Handlers, Memory, Trail, TrailLog};
 use mely_history::{After, Entry, NoSteal, NoTake, Registered, Setup, Shape, Stolen};
 use mely_queue::Turn;
 use mely_shard::Shard;
-use std::alloc::{AllocError, Global};
-use std::process::Abort;
-use std::test::Fail;
+use std::alloc::Global;
 
 /// A state that adds up the loads.
 #[derive(Drop)]
@@ -82,7 +80,7 @@ fn example(
     steal_cost: u32,
     pinned: u32,
     listed: bool,
-) -> Result<Shard<Tally, u32>, Fail>
+) -> Result<Shard<Tally, u32>, Memory>
     ensures { IfOk result IsExample }
 {
     let shape = Shape {
@@ -93,10 +91,10 @@ fn example(
         group: 1,
     };
     let Ok(handlers) = Handlers::new(&[(60, 2)]) else {
-        return Err(Fail::from("no table"));
+        return Err(Memory);
     };
     let Ok(setup) = Setup::new(&shape, 4, handlers, pinned) else {
-        return Err(Fail::from("no setup"));
+        return Err(Memory);
     };
     let setup = listed_where(setup, listed);
     let mut states = Vec::new(alloc);
@@ -106,7 +104,7 @@ fn example(
     states.push(initial_tally(3))?;
     match Shard::new(alloc, &setup, 0, states) {
         Ok(shard) => Ok(shard),
-        Err(_) => Err(Fail::from("no shard")),
+        Err(_) => Err(Memory),
     }
 }
 
@@ -331,17 +329,32 @@ fn answers(shard: &mut Shard<Tally, u32>, call: Call) -> bool
     }
 }
 
-/// Makes calls of a shard.
-fn play(rt: &impl Abort, shard: &mut Shard<Tally, u32>, calls: &[Call])
+/// The first of these calls of a shard that doesn't answer so.
+fn first_wrong(shard: &mut Shard<Tally, u32>, calls: &[Call]) -> Option<usize>
     requires { IsExample shard.old }
     ensures { IsExample shard.new }
 {
     'calls: for (number, call) in calls.iter().enumerate() {
-        assert!(rt; answers(shard, *call), "call {number}");
+        if !answers(shard, *call) {
+            return Some(number);
+        }
     }
+    None
 }
 
-const IN_ORDER: [Call; 12] = [
+/// The first of these calls of a new shard, at this cost and with so many pinned colours, that doesn't
+/// answer so.
+fn first_wrong_of(
+    alloc: Global,
+    steal_cost: u32,
+    pinned: u32,
+    calls: &[Call],
+) -> Result<Option<usize>, Memory> {
+    let mut shard = example(alloc, steal_cost, pinned, false)?;
+    Ok(first_wrong(&mut shard, calls))
+}
+
+static IN_ORDER: [Call; 12] = [
     Call::Register(2, WOKE),
     Call::Register(2, TOLD),
     Call::Turn(2, 1, Err(NoTake::Elsewhere { owner: 0 })),
@@ -357,13 +370,11 @@ const IN_ORDER: [Call; 12] = [
 ];
 
 #[test]
-fn calls_on_one_shard_answer_in_order(rt: HostRuntime) -> Result<(), Fail> {
-    let shard = &mut example(rt.alloc(), 20, 0, false)?;
-    play(&rt, shard, &IN_ORDER);
-    Ok(())
+fn calls_on_one_shard_answer_in_order(rt: HostRuntime) {
+    assert!(rt; first_wrong_of(rt.alloc(), 20, 0, &IN_ORDER) == Ok(None));
 }
 
-const AT_THE_COST: [Call; 6] = [
+static AT_THE_COST: [Call; 6] = [
     Call::IsDrained(true),
     Call::Ready(2, None),
     Call::Registers(2),
@@ -373,16 +384,14 @@ const AT_THE_COST: [Call; 6] = [
 ];
 
 #[test]
-fn a_steal_at_the_cost_is_cheap(rt: HostRuntime) -> Result<(), Fail> {
-    let shard = &mut example(rt.alloc(), 30, 0, false)?;
-    play(&rt, shard, &AT_THE_COST);
-    Ok(())
+fn a_steal_at_the_cost_is_cheap(rt: HostRuntime) {
+    assert!(rt; first_wrong_of(rt.alloc(), 30, 0, &AT_THE_COST) == Ok(None));
 }
 
 /// What a steal of colour 0 answers where it is pinned.
 const PINNED: Result<Stolen, NoSteal> = Err(NoSteal::Pinned { colour: Colour(0) });
 
-const ONE_IS_PINNED: [Call; 8] = [
+static ONE_IS_PINNED: [Call; 8] = [
     Call::Steal(0, 1, PINNED),
     Call::Steal(0, 0, PINNED),
     Call::Registers(0),
@@ -394,49 +403,60 @@ const ONE_IS_PINNED: [Call; 8] = [
 ];
 
 #[test]
-fn a_pinned_colour_is_never_stolen(rt: HostRuntime) -> Result<(), Fail> {
-    let shard = &mut example(rt.alloc(), 20, 1, false)?;
-    play(&rt, shard, &ONE_IS_PINNED);
-    Ok(())
+fn a_pinned_colour_is_never_stolen(rt: HostRuntime) {
+    assert!(rt; first_wrong_of(rt.alloc(), 20, 1, &ONE_IS_PINNED) == Ok(None));
 }
 
-/// What a drained shard comes apart into: how many entries, what the loads of each colour add up
-/// to, and how many lists of queued events.
-fn parts_of(
-    alloc: Global,
+/// Whether the loads of each state add up to these.
+fn add_up(states: &[Tally], totals: &[u64]) -> bool {
+    for (at, state) in states.iter().enumerate() {
+        if at >= totals.len() || totals[at] != state.total {
+            return false;
+        }
+    }
+    states.len() == totals.len()
+}
+
+/// Whether a drained shard comes apart into so many entries, states whose loads add up to these, and so
+/// many lists of queued events; or nothing where it isn't drained.
+fn comes_apart(
     shard: Shard<Tally, u32>,
-) -> Result<Option<(u64, Vec<u64>, usize)>, AllocError> {
+    entries: u64,
+    totals: &[u64],
+    lists: usize,
+) -> Option<bool> {
     if !shard.is_drained() {
-        return Ok(None);
+        return None;
     }
     let (history, states, queues) = shard.into_parts();
-    let mut totals = Vec::new(alloc);
-    for state in &states {
-        totals.push(state.total)?;
-    }
-    Ok(Some((history.len(), totals, queues.len())))
+    Some(history.len() == entries && add_up(&states, totals) && queues.len() == lists)
 }
 
-/// What a new shard of cost 30 comes apart into after these calls.
-fn apart_after(
-    rt: &impl Abort,
+/// Whether a new shard of cost 30 comes apart so after these calls.
+fn comes_apart_after(
     alloc: Global,
     calls: &[Call],
-) -> Result<Option<(u64, Vec<u64>, usize)>, Fail> {
+    entries: u64,
+    totals: &[u64],
+    lists: usize,
+) -> Result<Option<bool>, Memory> {
     let mut shard = example(alloc, 30, 0, false)?;
-    play(rt, &mut shard, calls);
+    let wrong = first_wrong(&mut shard, calls);
     shard.events_stand_once();
-    Ok(parts_of(alloc, shard)?)
+    match wrong {
+        Some(_) => Ok(Some(false)),
+        None => Ok(comes_apart(shard, entries, totals, lists)),
+    }
 }
 
-const ONE_RAN: [Call; 3] = [
+static ONE_RAN: [Call; 3] = [
     Call::Registers(3),
     Call::Turn(3, 1, Ok((1, After::Idle))),
     Call::Total(3, 5),
 ];
 
 /// The entries that these calls write.
-const ONE_RAN_WRITES: [Entry; 3] = [
+static ONE_RAN_WRITES: [Entry; 3] = [
     Entry::Reg {
         colour: Colour(3),
         event: Event { handler: 0, arg: 0 },
@@ -454,23 +474,32 @@ const ONE_RAN_WRITES: [Entry; 3] = [
     },
 ];
 
-#[test]
-fn a_history_is_listed_where_the_setup_asks(rt: HostRuntime) -> Result<(), Fail> {
-    for (listed, shown) in [(false, None), (true, Some(ONE_RAN_WRITES.as_slice()))] {
-        let shard = &mut example(rt.alloc(), 30, 0, listed)?;
-        play(&rt, shard, &ONE_RAN);
-        assert!(rt; shard.history().len() == 3, "listed: {listed}");
-        assert!(rt; shard.history().entries() == shown, "listed: {listed}");
-    }
-    Ok(())
+/// Whether the history of these calls has three entries, and shows these where it is listed, and none
+/// otherwise.
+fn is_listed(
+    alloc: Global,
+    listed: bool,
+    calls: &[Call],
+    written: &[Entry],
+) -> Result<bool, Memory> {
+    let mut shard = example(alloc, 30, 0, listed)?;
+    let wrong = first_wrong(&mut shard, calls);
+    let shown = listed.then_some(written);
+    Ok(wrong == None && shard.history().len() == 3 && shard.history().entries() == shown)
 }
 
 #[test]
-fn a_shard_comes_apart_into_what_it_held(rt: HostRuntime) -> Result<(), Fail> {
-    let totals = vec![in rt.alloc(); 0, 0, 0, 5]?;
-    let whole = apart_after(&rt, rt.alloc(), &ONE_RAN)?;
-    assert!(rt; whole == Some((3, totals, 4)));
-    let none = apart_after(&rt, rt.alloc(), &[Call::Registers(3)])?;
-    assert!(rt; none == None);
-    Ok(())
+fn a_history_is_listed_where_the_setup_asks(rt: HostRuntime) {
+    for listed in [false, true] {
+        let is_so = is_listed(rt.alloc(), listed, &ONE_RAN, &ONE_RAN_WRITES);
+        assert!(rt; is_so == Ok(true), "listed: {listed}");
+    }
+}
+
+#[test]
+fn a_shard_comes_apart_into_what_it_held(rt: HostRuntime) {
+    let whole = comes_apart_after(rt.alloc(), &ONE_RAN, 3, &[0, 0, 0, 5], 4);
+    assert!(rt; whole == Ok(Some(true)));
+    let none = comes_apart_after(rt.alloc(), &[Call::Registers(3)], 1, &[], 4);
+    assert!(rt; none == Ok(None));
 }

@@ -11,13 +11,24 @@ use sws_site::{Site, SiteFault, SiteOptions};
 const ALL: SiteOptions = SiteOptions {
     removes_dot_segments: true,
     knows_more_types: true,
+    sends_not_found_page: true,
+    redirects_to_folders: true,
 };
+
+/// The site of these files with these options. Its date is that of the examples of RFC 9110.
+fn site_with(
+    alloc: Global,
+    files: &[(&[u8], &[u8])],
+    options: SiteOptions,
+) -> Result<Site, SiteFault> {
+    let mut folder = SureFolder::new(alloc, files_of(alloc, files)?);
+    folder.open("site");
+    Site::load_with(alloc, &mut folder, Some(784111777), options)
+}
 
 /// The site of these files that does all that a site can.
 fn site_with_all(alloc: Global, files: &[(&[u8], &[u8])]) -> Result<Site, SiteFault> {
-    let mut folder = SureFolder::new(alloc, files_of(alloc, files)?);
-    folder.open("site");
-    Site::load_with(alloc, &mut folder, None, ALL)
+    site_with(alloc, files, ALL)
 }
 
 /// The head of a request for a target.
@@ -85,7 +96,7 @@ fn has_type(site: &Site, name: &[u8], media_type: &[u8]) -> bool {
 }
 
 /// Names with the types that are registered for their extensions.
-const TYPES: [(&[u8], &[u8]); 10] = [
+const TYPES: [(&[u8], &[u8]); 12] = [
     (b"a.html", b"text/html"),
     (b"a.mjs", b"text/javascript"),
     (b"A.WEBP", b"image/webp"),
@@ -95,6 +106,11 @@ const TYPES: [(&[u8], &[u8]); 10] = [
     (b"a.webmanifest", b"application/manifest+json"),
     (b"a.tar.gz", b"application/gzip"),
     (b"a.pem", b"application/x-x509-ca-cert"),
+    (
+        b"a.docx",
+        b"application/vnd.openxmlformats-officedocument.wordprocessingml.document",
+    ),
+    (b"a.odt", b"application/vnd.oasis.opendocument.text"),
     (b"a.none", b"application/octet-stream"),
 ];
 
@@ -105,4 +121,157 @@ fn more_types_are_known(rt: HostRuntime) -> Result<(), Fail> {
         assert!(rt; has_type(&site, name, media_type));
     }
     Ok(())
+}
+
+/// Whether the site answers this head with this response.
+fn is_sent(rt: &(impl AllocGlobal + Abort), site: &Site, head: &[u8], response: &[u8]) -> bool {
+    let mut room = PathRoom::new(rt.alloc()).expect(rt, "memory");
+    let mut parts = answer(site, &ask(head), false, &mut room).parts;
+    let mut sent = Vec::new(rt.alloc());
+    sent.extend_from_slice(parts.front()).expect(rt, "memory");
+    parts.advance(parts.front().len());
+    sent.extend_from_slice(parts.front()).expect(rt, "memory");
+    sent.as_slice() == response
+}
+
+/// Whether the site of these files with these options answers this head with this response.
+fn is_sent_with(
+    rt: &(impl AllocGlobal + Abort),
+    options: SiteOptions,
+    files: &[(&[u8], &[u8])],
+    head: &[u8],
+    response: &[u8],
+) -> bool {
+    match site_with(rt.alloc(), files, options) {
+        Ok(site) => is_sent(rt, &site, head, response),
+        Err(_) => false,
+    }
+}
+
+/// Folders with an index and without one; a name that begins with a slash, as no file of a machine
+/// does.
+static FOLDERS: [(&[u8], &[u8]); 6] = [
+    (b"docs/index.html", b"docs\n"),
+    (b"a b/\xC3\xA9/index.html", b"e\n"),
+    (b"bare/x.txt", b"x\n"),
+    (b"%/index.html", b"percent\n"),
+    (b"/host/index.html", b"host\n"),
+    (b"index.html", b"top\n"),
+];
+
+/// The response that no file has the name.
+static NOT_FOUND: &[u8] =
+    b"HTTP/1.1 404 Not Found\r\nServer: sws\r\nContent-Type: text/plain\r\nContent-Length: 14\r\n\r\n404 Not Found\n";
+
+/// Heads of requests, and the responses to them. A folder is redirected to by its own path, whatever
+/// the target looked like (RFC 9110, sections 10.2.2 and 15.4.2).
+static REDIRECTS: [(&[u8], &[u8]); 8] = [
+    (
+        b"GET /docs HTTP/1.1\r\nHost: h\r\n\r\n",
+        b"HTTP/1.1 301 Moved Permanently\r\nServer: sws\r\nLocation: /docs/\r\nContent-Type: text/plain\r\nContent-Length: 22\r\n\r\n301 Moved Permanently\n",
+    ),
+    (
+        b"GET /docs?x=1 HTTP/1.1\r\nHost: h\r\n\r\n",
+        b"HTTP/1.1 301 Moved Permanently\r\nServer: sws\r\nLocation: /docs/\r\nContent-Type: text/plain\r\nContent-Length: 22\r\n\r\n301 Moved Permanently\n",
+    ),
+    (
+        b"HEAD /docs HTTP/1.1\r\nHost: h\r\nConnection: close\r\n\r\n",
+        b"HTTP/1.1 301 Moved Permanently\r\nServer: sws\r\nLocation: /docs/\r\nConnection: close\r\nContent-Type: text/plain\r\nContent-Length: 22\r\n\r\n",
+    ),
+    (
+        b"GET http://other/x/../%64ocs HTTP/1.1\r\nHost: h\r\nRange: bytes=0-1\r\n\r\n",
+        b"HTTP/1.1 301 Moved Permanently\r\nServer: sws\r\nLocation: /docs/\r\nContent-Type: text/plain\r\nContent-Length: 22\r\n\r\n301 Moved Permanently\n",
+    ),
+    (
+        b"GET /a%20b/%c3%a9 HTTP/1.1\r\nHost: h\r\n\r\n",
+        b"HTTP/1.1 301 Moved Permanently\r\nServer: sws\r\nLocation: /a%20b/%C3%A9/\r\nContent-Type: text/plain\r\nContent-Length: 22\r\n\r\n301 Moved Permanently\n",
+    ),
+    (
+        b"GET /% HTTP/1.1\r\nHost: h\r\n\r\n",
+        b"HTTP/1.1 301 Moved Permanently\r\nServer: sws\r\nLocation: /%25/\r\nContent-Type: text/plain\r\nContent-Length: 22\r\n\r\n301 Moved Permanently\n",
+    ),
+    (
+        b"GET /docs/ HTTP/1.1\r\nHost: h\r\n\r\n",
+        b"HTTP/1.1 200 OK\r\nServer: sws\r\nLast-Modified: Sun, 06 Nov 1994 08:49:37 GMT\r\nContent-Type: text/html\r\nContent-Length: 5\r\n\r\ndocs\n",
+    ),
+    (
+        b"POST /docs HTTP/1.1\r\nHost: h\r\n\r\n",
+        b"HTTP/1.1 405 Method Not Allowed\r\nServer: sws\r\nAllow: GET, HEAD\r\nContent-Type: text/plain\r\nContent-Length: 23\r\n\r\n405 Method Not Allowed\n",
+    ),
+];
+
+/// Heads of requests for what is no file, and no folder with an index.
+static NO_REDIRECTS: [&[u8]; 5] = [
+    b"GET /bare HTTP/1.1\r\nHost: h\r\n\r\n",
+    b"GET //docs HTTP/1.1\r\nHost: h\r\n\r\n",
+    b"GET //host HTTP/1.1\r\nHost: h\r\n\r\n",
+    b"GET /host HTTP/1.1\r\nHost: h\r\n\r\n",
+    b"GET /docs/index.html/ HTTP/1.1\r\nHost: h\r\n\r\n",
+];
+
+#[test]
+fn folders_are_redirected_to(rt: HostRuntime) {
+    for &(head, response) in &REDIRECTS {
+        assert!(rt; is_sent_with(&rt, ALL, &FOLDERS, head, response));
+    }
+    for head in &NO_REDIRECTS {
+        assert!(rt; is_sent_with(&rt, ALL, &FOLDERS, head, NOT_FOUND));
+    }
+}
+
+/// A site with a page for names that no file has.
+static PAGES: [(&[u8], &[u8]); 3] = [
+    (b"404.html", b"<p>Lost?\n"),
+    (b"docs/404.html", b"docs\n"),
+    (b"a", b"a"),
+];
+
+/// Heads of requests, and the responses to them. The page is sent whole, whatever part of it or
+/// condition on it the request names.
+static LOST: [(&[u8], &[u8]); 6] = [
+    (
+        b"GET /none HTTP/1.1\r\nHost: h\r\n\r\n",
+        b"HTTP/1.1 404 Not Found\r\nServer: sws\r\nContent-Type: text/html\r\nContent-Length: 9\r\n\r\n<p>Lost?\n",
+    ),
+    (
+        b"HEAD /docs/none HTTP/1.1\r\nHost: h\r\n\r\n",
+        b"HTTP/1.1 404 Not Found\r\nServer: sws\r\nContent-Type: text/html\r\nContent-Length: 9\r\n\r\n",
+    ),
+    (
+        b"GET /docs HTTP/1.0\r\nRange: bytes=0-1\r\nIf-Modified-Since: Sun, 06 Nov 1994 08:49:37 GMT\r\n\r\n",
+        b"HTTP/1.1 404 Not Found\r\nServer: sws\r\nConnection: close\r\nContent-Type: text/html\r\nContent-Length: 9\r\n\r\n<p>Lost?\n",
+    ),
+    (
+        b"GET /404.html HTTP/1.1\r\nHost: h\r\n\r\n",
+        b"HTTP/1.1 200 OK\r\nServer: sws\r\nLast-Modified: Sun, 06 Nov 1994 08:49:37 GMT\r\nContent-Type: text/html\r\nContent-Length: 9\r\n\r\n<p>Lost?\n",
+    ),
+    (
+        b"GET /none HTTP/1.1\r\n\r\n",
+        b"HTTP/1.1 400 Bad Request\r\nServer: sws\r\nConnection: close\r\nContent-Type: text/plain\r\nContent-Length: 16\r\n\r\n400 Bad Request\n",
+    ),
+    (
+        b"GET /a HTTP/1.1\r\nHost: h\r\nRange: bytes=5-\r\n\r\n",
+        b"HTTP/1.1 416 Range Not Satisfiable\r\nServer: sws\r\nContent-Range: bytes */1\r\nContent-Type: text/plain\r\nContent-Length: 26\r\n\r\n416 Range Not Satisfiable\n",
+    ),
+];
+
+#[test]
+fn a_page_tells_that_no_file_has_the_name(rt: HostRuntime) {
+    for &(head, response) in &LOST {
+        assert!(rt; is_sent_with(&rt, ALL, &PAGES, head, response));
+    }
+}
+
+/// Heads of requests that a plain site answers by the line that tells 404.
+static PLAIN: [&[u8]; 2] = [
+    b"GET /docs HTTP/1.1\r\nHost: h\r\n\r\n",
+    b"GET /none HTTP/1.1\r\nHost: h\r\n\r\n",
+];
+
+#[test]
+fn a_plain_site_has_neither(rt: HostRuntime) {
+    for head in &PLAIN {
+        assert!(rt; is_sent_with(&rt, SiteOptions::plain(), &FOLDERS, head, NOT_FOUND));
+        assert!(rt; is_sent_with(&rt, SiteOptions::plain(), &PAGES, head, NOT_FOUND));
+    }
 }

@@ -2,9 +2,11 @@
 
 use std::io::{self, Read, Write};
 use std::net::{SocketAddr, TcpListener, TcpStream};
-use std::test::Fail;
+use std::sync::Wait;
+use std::thread::Threads;
+use std::time::Clock;
 use std::{fs, thread};
-use sws_daemon::{Order, Outbox, serve_at};
+use sws_daemon::{Order, Outbox, Served, serve_at};
 
 /// How many clients ask.
 const CLIENTS: u64 = 40;
@@ -107,46 +109,89 @@ fn order_of(
     })
 }
 
-#[test]
-fn forty_clients_are_answered_over_generations_of_two(rt: HostRuntime) -> Result<(), Fail> {
-    let order = order_of(&rt, "swsd_rows_site", "swsd_rows_stop", 3, 20)?;
-    let listener = TcpListener::bind(&rt, order.listen)?;
-    let address = listener.local_addr()?;
-    let outbox = Outbox::new(rt.alloc());
-    let (served, answered) = thread::join(
-        &rt,
-        || serve_at(&rt, &rt, order, &listener, &outbox),
-        || ask_beside_a_silent_one(&rt, address, "swsd_rows_stop"),
-    );
-    let Ok(served) = served else {
-        panic!(rt; "the server has failed");
-    };
-    assert_eq!(rt; answered, CLIENTS);
-    assert_eq!(rt; served.fault, None);
-    assert_eq!(rt; served.totals.connections, CLIENTS + 1);
-    assert_eq!(rt; served.totals.done, CLIENTS + 1);
-    assert!(rt; served.totals.generations > CLIENTS / 2);
-    assert_eq!(rt; served.totals.read, 46 * CLIENTS);
-    Ok(())
+/// How clients ask.
+#[derive(Clone, Copy)]
+enum Asking {
+    BesideASilentOne,
+    AfterASilentOne,
 }
 
-#[test]
-fn a_silent_client_is_cut_once_its_generation_has_left(rt: HostRuntime) -> Result<(), Fail> {
-    let order = order_of(&rt, "swsd_rows_cut", "swsd_rows_cut_stop", 1, 2)?;
-    let listener = TcpListener::bind(&rt, order.listen)?;
+/// How many clients were answered that ask so, and how many bytes the silent one got.
+fn ask_so(
+    rt: &HostRuntime,
+    address: SocketAddr,
+    stop: &str,
+    asking: Asking,
+) -> io::Result<(u64, usize)> {
+    match asking {
+        Asking::BesideASilentOne => Ok((ask_beside_a_silent_one(rt, address, stop), 0)),
+        Asking::AfterASilentOne => ask_after_a_silent_one(rt, address, stop),
+    }
+}
+
+/// Serves clients that ask so by an order: what has come of it, and how many were answered, and how
+/// many bytes the silent one got.
+fn serve<T: AllocGlobal + Threads + Wait + Sync + Clock>(
+    rt: &HostRuntime,
+    threads: &T,
+    order: Order,
+    stop: &str,
+    asking: Asking,
+) -> io::Result<(Option<Served>, (u64, usize))> {
+    let listener = TcpListener::bind(rt, order.listen)?;
     let address = listener.local_addr()?;
     let outbox = Outbox::new(rt.alloc());
     let (served, asked) = thread::join(
-        &rt,
-        || serve_at(&rt, &rt, order, &listener, &outbox),
-        || ask_after_a_silent_one(&rt, address, "swsd_rows_cut_stop"),
+        threads,
+        || serve_at(rt, threads, order, &listener, &outbox),
+        || ask_so(rt, address, stop, asking),
     );
-    let Ok(served) = served else {
-        panic!(rt; "the server has failed");
-    };
-    assert_eq!(rt; asked?, (2, 0));
-    assert_eq!(rt; served.totals.connections, 3);
-    assert_eq!(rt; served.totals.done, 2);
-    assert_eq!(rt; served.totals.fault, 1);
-    Ok(())
+    Ok((served.ok(), asked?))
+}
+
+/// Whether a server of forty clients and a silent one has these numbers.
+fn has_served_forty(served: &Served) -> bool {
+    let totals = &served.totals;
+    served.fault == None
+        && (totals.connections, totals.done) == (CLIENTS + 1, CLIENTS + 1)
+        && totals.generations > CLIENTS / 2
+        && totals.read == 46 * CLIENTS
+}
+
+/// Whether forty clients are answered beside a silent one.
+fn are_forty_answered<T: AllocGlobal + Threads + Wait + Sync + Clock>(
+    rt: &HostRuntime,
+    threads: &T,
+) -> io::Result<bool> {
+    let order = order_of(rt, "swsd_rows_site", "swsd_rows_stop", 3, 20)?;
+    let asking = Asking::BesideASilentOne;
+    let (served, asked) = serve(rt, threads, order, "swsd_rows_stop", asking)?;
+    Ok(asked == (CLIENTS, 0) && served.is_some_and(|served| has_served_forty(&served)))
+}
+
+#[test]
+fn forty_clients_are_answered_over_generations_of_two(rt: HostRuntime) {
+    assert!(rt; matches!(are_forty_answered(&rt, &rt), Ok(true)));
+}
+
+/// Whether a server that has cut one of three connections has these numbers.
+fn has_cut_one(served: &Served) -> bool {
+    let totals = &served.totals;
+    (totals.connections, totals.done, totals.fault) == (3, 2, 1)
+}
+
+/// Whether a silent client is cut, and two are answered.
+fn is_silent_cut<T: AllocGlobal + Threads + Wait + Sync + Clock>(
+    rt: &HostRuntime,
+    threads: &T,
+) -> io::Result<bool> {
+    let order = order_of(rt, "swsd_rows_cut", "swsd_rows_cut_stop", 1, 2)?;
+    let asking = Asking::AfterASilentOne;
+    let (served, asked) = serve(rt, threads, order, "swsd_rows_cut_stop", asking)?;
+    Ok(asked == (2, 0) && served.is_some_and(|served| has_cut_one(&served)))
+}
+
+#[test]
+fn a_silent_client_is_cut_once_its_generation_has_left(rt: HostRuntime) {
+    assert!(rt; matches!(is_silent_cut(&rt, &rt), Ok(true)));
 }

@@ -3,8 +3,9 @@
 
 use std::io::{self, Read, Write};
 use std::net::{SocketAddr, TcpListener, TcpStream};
-use std::test::Fail;
-use std::time::Duration;
+use std::sync::Wait;
+use std::thread::Threads;
+use std::time::{Clock, Duration};
 use std::{fs, thread};
 use sws_daemon::{Order, Outbox, serve_at};
 
@@ -81,20 +82,21 @@ fn see_and_stop(
     seen
 }
 
-#[test]
-fn a_page_is_sent_again_only_where_it_has_changed(rt: HostRuntime) -> Result<(), Fail> {
-    let alloc = rt.alloc();
-    let (folder, stop, reload) = (
-        "swsd_rows_reload",
-        "swsd_rows_reload_stop",
-        "swsd_rows_again",
-    );
-    fs::create_dir_all(&rt, folder)?;
-    fs::write(&rt, "swsd_rows_reload/index.html", b"hi\n")?;
-    let _ = fs::remove_file(&rt, stop);
-    let _ = fs::remove_file(&rt, reload);
-    let order = Order {
-        folder: String::from_str(alloc, folder)?,
+/// The folder, and the files that stop the server and have it load the folder anew.
+const FOLDER: &str = "swsd_rows_reload";
+
+const STOP: &str = "swsd_rows_reload_stop";
+
+const RELOAD: &str = "swsd_rows_again";
+
+/// The order that serves the folder on three lanes, which nobody looks at.
+fn order_of(rt: &HostRuntime) -> io::Result<Order> {
+    fs::create_dir_all(rt, FOLDER)?;
+    fs::write(rt, "swsd_rows_reload/index.html", b"hi\n")?;
+    let _ = fs::remove_file(rt, STOP);
+    let _ = fs::remove_file(rt, RELOAD);
+    Ok(Order {
+        folder: String::from_str(rt.alloc(), FOLDER)?,
         listen: SocketAddr::from(([127, 0, 0, 1], 0)),
         workers: 1,
         lanes: 3,
@@ -103,37 +105,68 @@ fn a_page_is_sent_again_only_where_it_has_changed(rt: HostRuntime) -> Result<(),
         age: 600,
         grace: 5,
         look: 0,
-        stop_file: Some(String::from_str(alloc, stop)?),
-        reload_file: Some(String::from_str(alloc, reload)?),
+        stop_file: Some(String::from_str(rt.alloc(), STOP)?),
+        reload_file: Some(String::from_str(rt.alloc(), RELOAD)?),
         log: false,
         quiet: false,
         hidden: false,
-    };
-    let listener = TcpListener::bind(&rt, order.listen)?;
+    })
+}
+
+/// Serves by an order: what was seen, where the server ended well.
+fn serve<T: AllocGlobal + Threads + Wait + Sync + Clock>(
+    rt: &HostRuntime,
+    threads: &T,
+    order: Order,
+    outbox: &Outbox,
+) -> io::Result<Option<Seen>> {
+    let listener = TcpListener::bind(rt, order.listen)?;
     let address = listener.local_addr()?;
-    let outbox = Outbox::new(alloc);
     let (served, seen) = thread::join(
-        &rt,
-        || serve_at(&rt, &rt, order, &listener, &outbox),
-        || see_and_stop(&rt, address, stop, reload),
+        threads,
+        || serve_at(rt, threads, order, &listener, outbox),
+        || see_and_stop(rt, address, STOP, RELOAD),
     );
-    assert!(rt; served.is_ok());
     let seen = seen?;
-    for (answer, begins, ends) in [
-        (&seen.first, "HTTP/1.1 200 OK\r\n", "\r\n\r\nhi\n"),
-        (&seen.again, "HTTP/1.1 304 Not Modified\r\n", "\r\n\r\n"),
-        (&seen.unasked, "HTTP/1.1 304 Not Modified\r\n", "\r\n\r\n"),
-        (&seen.changed, "HTTP/1.1 200 OK\r\n", "\r\n\r\nho\n"),
-    ] {
-        let answer = answer.as_str();
-        assert!(rt;
-            answer.starts_with(begins) && answer.ends_with(ends),
-            "{answer}"
-        );
-    }
-    let (_, messages) = outbox.take(&rt);
-    let messages = String::from_utf8(messages)?;
+    Ok(if served.is_ok() { Some(seen) } else { None })
+}
+
+/// Whether an answer begins and ends so.
+fn is_answer(answer: &String, begins: &str, ends: &str) -> bool {
+    answer.as_str().starts_with(begins) && answer.as_str().ends_with(ends)
+}
+
+/// Whether the page was sent, not sent again until it was asked for anew, and sent as it is then.
+fn is_seen(seen: &Seen) -> bool {
+    let not_again = "HTTP/1.1 304 Not Modified\r\n";
+    is_answer(&seen.first, "HTTP/1.1 200 OK\r\n", "\r\n\r\nhi\n")
+        && is_answer(&seen.again, not_again, "\r\n\r\n")
+        && is_answer(&seen.unasked, not_again, "\r\n\r\n")
+        && is_answer(&seen.changed, "HTTP/1.1 200 OK\r\n", "\r\n\r\nho\n")
+}
+
+/// Whether it was said that the folder was loaded anew.
+fn is_said<T: Wait>(threads: &T, outbox: &Outbox) -> bool {
+    let (_, messages) = outbox.take(threads);
     let line = "[INFO  swsd] the folder was loaded anew, as the reload file asks\n";
-    assert!(rt; messages.as_str().contains(line));
-    Ok(())
+    match String::from_utf8(messages) {
+        Ok(messages) => messages.as_str().contains(line),
+        Err(_) => false,
+    }
+}
+
+/// Whether a page is sent again only where it has changed.
+fn is_sent_again<T: AllocGlobal + Threads + Wait + Sync + Clock>(
+    rt: &HostRuntime,
+    threads: &T,
+) -> io::Result<bool> {
+    let order = order_of(rt)?;
+    let outbox = Outbox::new(rt.alloc());
+    let seen = serve(rt, threads, order, &outbox)?;
+    Ok(seen.is_some_and(|seen| is_seen(&seen)) && is_said(threads, &outbox))
+}
+
+#[test]
+fn a_page_is_sent_again_only_where_it_has_changed(rt: HostRuntime) {
+    assert!(rt; matches!(is_sent_again(&rt, &rt), Ok(true)));
 }

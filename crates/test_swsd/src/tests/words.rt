@@ -2,7 +2,6 @@
 
 use std::alloc::Global;
 use std::net::SocketAddr;
-use std::test::Fail;
 use sws_daemon::{Order, WordsFault, read_order};
 
 /// The order of these words, on a machine with four processors.
@@ -25,99 +24,114 @@ fn fault(alloc: Global, words: &[&str]) -> Option<String> {
     }
 }
 
-#[test]
-fn a_folder_alone_is_served_by_the_machines_processors(rt: HostRuntime) -> Result<(), Fail> {
-    let Ok(order) = order(rt.alloc(), &["swsd", "/var/www"]) else {
-        panic!(rt; "the words are refused");
-    };
-    assert_eq!(rt; order.folder.as_str(), "/var/www");
-    assert_eq!(rt; order.listen.port(), 8080);
-    assert!(rt; order.listen.is_ipv6());
-    assert_eq!(rt; (order.workers, order.lanes, order.accepting), (1, 8, 4));
-    assert_eq!(rt;
-        (order.connections, order.age, order.grace),
-        (1024, 600, 30)
-    );
-    assert_eq!(rt; order.look, 1);
-    assert!(rt; order.stop_file.is_none() && order.reload_file.is_none());
-    assert!(rt; !order.log && !order.quiet && !order.hidden);
-    Ok(())
+/// Whether the order of a folder alone is that of a machine with four processors.
+fn is_plain(order: &Order) -> bool {
+    order.folder.as_str() == "/var/www"
+        && order.listen.port() == 8080
+        && order.listen.is_ipv6()
+        && (order.workers, order.lanes, order.accepting) == (1, 8, 4)
+        && (order.connections, order.age, order.grace) == (1024, 600, 30)
+        && order.look == 1
+        && order.stop_file.is_none()
+        && order.reload_file.is_none()
+        && !(order.log || order.quiet || order.hidden)
 }
 
 #[test]
-fn words_stand_in_any_order(rt: HostRuntime) -> Result<(), Fail> {
-    let words = [
-        "swsd",
-        "--listen=127.0.0.1:80",
-        "--lanes",
-        "2",
-        "--log",
-        "--age",
-        "10",
-        "site",
-        "--stop-file",
-        "stop",
-        "--look",
-        "0",
-        "--reload-file=again",
-        "--hidden",
-        "--quiet",
-        "--grace=0",
-        "--workers",
-        "64",
-    ];
-    let Ok(order) = order(rt.alloc(), &words) else {
-        panic!(rt; "the words are refused");
-    };
-    assert_eq!(rt; order.listen, SocketAddr::from(([127, 0, 0, 1], 80)));
-    assert_eq!(rt; (order.workers, order.lanes, order.accepting), (64, 2, 2));
-    assert_eq!(rt; (order.age, order.grace), (10, 0));
-    assert_eq!(rt; order.stop_file.as_deref(), Some("stop"));
-    assert_eq!(rt; order.reload_file.as_deref(), Some("again"));
-    assert_eq!(rt; order.look, 0);
-    assert!(rt; order.log && order.quiet && order.hidden);
-    Ok(())
+fn a_folder_alone_is_served_by_the_machines_processors(rt: HostRuntime) {
+    let order = order(rt.alloc(), &["swsd", "/var/www"]);
+    assert!(rt; order.is_ok_and(|order| is_plain(&order)));
+}
+
+/// Words in any order.
+static WORDS: [&str; 18] = [
+    "swsd",
+    "--listen=127.0.0.1:80",
+    "--lanes",
+    "2",
+    "--log",
+    "--age",
+    "10",
+    "site",
+    "--stop-file",
+    "stop",
+    "--look",
+    "0",
+    "--reload-file=again",
+    "--hidden",
+    "--quiet",
+    "--grace=0",
+    "--workers",
+    "64",
+];
+
+/// Whether an order is that of these words.
+fn is_of_words(order: &Order) -> bool {
+    order.listen == SocketAddr::from(([127, 0, 0, 1], 80))
+        && (order.workers, order.lanes, order.accepting) == (64, 2, 2)
+        && (order.age, order.grace) == (10, 0)
+        && order.stop_file.as_deref() == Some("stop")
+        && order.reload_file.as_deref() == Some("again")
+        && order.look == 0
+        && order.log
+        && order.quiet
+        && order.hidden
 }
 
 #[test]
-fn a_fault_names_the_word_and_what_was_expected(rt: HostRuntime) -> Result<(), Fail> {
-    let alloc = rt.alloc();
-    let Some(said) = fault(alloc, &["swsd", "site", "--listen", "8080"]) else {
-        panic!(rt; "the words are taken");
-    };
-    assert_eq!(rt;
-        said.as_str(),
-        "error: invalid value '8080' for '--listen <ADDRESS:PORT>': expected an address with a port, as 127.0.0.1:8080 or [::]:8080\n"
-    );
-    let Some(said) = fault(alloc, &["swsd", "site", "--workers", "65"]) else {
-        panic!(rt; "the words are taken");
-    };
-    assert!(rt;
-        said.as_str().starts_with(
-            "error: invalid value '65' for '--workers <N>': 65 is not in 1..=64"
-        )
-    );
-    let Some(said) = fault(alloc, &["swsd", "site", "--look", "86401"]) else {
-        panic!(rt; "the words are taken");
-    };
-    assert!(rt;
-        said.as_str().starts_with(
-            "error: invalid value '86401' for '--look <SECONDS>': 86401 is not in 0..=86400"
-        )
-    );
-    assert!(rt; fault(alloc, &["swsd"]).is_some());
-    assert!(rt; fault(alloc, &["swsd", "site", "--frob"]).is_some());
-    Ok(())
+fn words_stand_in_any_order(rt: HostRuntime) {
+    let order = order(rt.alloc(), &WORDS);
+    assert!(rt; order.is_ok_and(|order| is_of_words(&order)));
 }
 
-#[test]
-fn help_and_version_are_no_faults(rt: HostRuntime) -> Result<(), Fail> {
-    let alloc = rt.alloc();
-    for word in ["--help", "--version"] {
-        match order(alloc, &["swsd", word]) {
-            Err(WordsFault::Told(error)) => assert_eq!(rt; error.exit_code(), 0),
-            _ => panic!(rt; "it is not told"),
-        }
+/// Words that are refused, and how what is said of them begins.
+static REFUSED: [(&[&str], &str); 5] = [
+    (
+        &["swsd", "site", "--listen", "8080"],
+        "error: invalid value '8080' for '--listen <ADDRESS:PORT>': expected an address with a port, as 127.0.0.1:8080 or [::]:8080\n",
+    ),
+    (
+        &["swsd", "site", "--workers", "65"],
+        "error: invalid value '65' for '--workers <N>': 65 is not in 1..=64",
+    ),
+    (
+        &["swsd", "site", "--look", "86401"],
+        "error: invalid value '86401' for '--look <SECONDS>': 86401 is not in 0..=86400",
+    ),
+    (&["swsd"], ""),
+    (&["swsd", "site", "--frob"], ""),
+];
+
+/// Whether these words are refused, and what is said of them begins so.
+fn is_refused(alloc: Global, words: &[&str], begins: &str) -> bool {
+    match fault(alloc, words) {
+        Some(said) => said.as_str().starts_with(begins),
+        None => false,
     }
-    Ok(())
+}
+
+#[test]
+fn a_fault_names_the_word_and_what_was_expected(rt: HostRuntime) {
+    for (row, &(words, begins)) in REFUSED.iter().enumerate() {
+        assert!(rt; is_refused(rt.alloc(), words, begins), "row {row}");
+    }
+    let listen = fault(rt.alloc(), REFUSED[0].0);
+    assert!(rt;
+        listen.is_some_and(|said| said.len() == REFUSED[0].1.len()),
+        "nothing else"
+    );
+}
+
+/// Whether these words ask for what is told and ends well.
+fn is_told(alloc: Global, words: &[&str]) -> bool {
+    match order(alloc, words) {
+        Err(WordsFault::Told(error)) => error.exit_code() == 0,
+        _ => false,
+    }
+}
+
+#[test]
+fn help_and_version_are_no_faults(rt: HostRuntime) {
+    assert!(rt; is_told(rt.alloc(), &["swsd", "--help"]));
+    assert!(rt; is_told(rt.alloc(), &["swsd", "--version"]));
 }

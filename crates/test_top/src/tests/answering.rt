@@ -1,6 +1,11 @@
 //! The command `answer`.
-use super::{Failing, INDEX, INDEX_SENT, NO_CALL, bytes_of, file, put, say, say_failing, say_on};
-use std::test::Fail;
+use super::{
+    Failing, INDEX, INDEX_SENT, NO_CALL, Piece, Said, bytes_of, file, is_answered, say,
+    say_failing, say_on,
+};
+use std::alloc::{AllocError, Global};
+use std::sync::Wait;
+use std::thread::Threads;
 use sws_top::{SiteLimit, TopFault};
 
 const INDEX_SENT_LAST: &str =
@@ -24,228 +29,277 @@ const INDEX_SENT_DATED: &str =
 const BROWSER: &str =
     "GET / HTTP/1.1~Host: localhost:8080~User-Agent: Mozilla/5.0 (X11; Linux x86_64; rv:128.0) Gecko/20100101 Firefox/128.0~Accept: text/html,application/xhtml+xml,application/xml;q=0.9,*/*;q=0.8~Accept-Language: en-US,en;q=0.5~Accept-Encoding: gzip, deflate, br~Connection: keep-alive~Upgrade-Insecure-Requests: 1~Sec-Fetch-Dest: document~Sec-Fetch-Mode: navigate~~";
 
+/// Inputs, and what is written of each.
+static ANSWERS: [(&str, &str); 13] = [
+    (INDEX, INDEX_SENT),
+    ("", ""),
+    ("GET / HTTP/1.1~Host: x~~GET /em", INDEX_SENT),
+    ("GET / HTTP/1.1~~GET / HTTP/1.1~Host: x~~", BAD_REQUEST),
+    (
+        "GET / HTTP/1.1~Host: x~Host: x~~GET / HTTP/1.1~Host: x~~",
+        BAD_REQUEST,
+    ),
+    ("GET /a%2Fb.txt HTTP/1.1~Host: x~~", TEXT_SENT),
+    ("GET /a/b.txt?q=1 HTTP/1.1~Host: x~~", TEXT_SENT),
+    ("GET http://h/a/b.txt HTTP/1.1~Host: x~~", TEXT_SENT),
+    (
+        "GET /%2e%2e/x HTTP/1.1~Host: x~~",
+        "HTTP/1.1 404 Not Found~Server: sws~Content-Type: text/plain~Content-Length: 14~~404 Not Found\n",
+    ),
+    (
+        "GET / HTTP/1.1~Host: x~~HEAD /a/b.txt HTTP/1.1~Host: x~~",
+        "HTTP/1.1 200 OK~Server: sws~Content-Type: text/html~Content-Length: 3~~hi\nHTTP/1.1 200 OK~Server: sws~Content-Type: text/plain~Content-Length: 10~~",
+    ),
+    (
+        "GET /empty.css HTTP/1.1~Host: x~~GET / HTTP/1.1~Host: x~~",
+        "HTTP/1.1 200 OK~Server: sws~Content-Type: text/css~Content-Length: 0~~HTTP/1.1 200 OK~Server: sws~Content-Type: text/html~Content-Length: 3~~hi\n",
+    ),
+    (
+        "POST / HTTP/1.1~Host: x~Content-Length: 5~~hello",
+        "HTTP/1.1 405 Method Not Allowed~Server: sws~Connection: close~Allow: GET, HEAD~Content-Type: text/plain~Content-Length: 23~~405 Method Not Allowed\n",
+    ),
+    (
+        "BREW / HTTP/1.1~Host: x~~GET / HTTP/1.1~Host: x~~",
+        "HTTP/1.1 501 Not Implemented~Server: sws~Content-Type: text/plain~Content-Length: 20~~501 Not Implemented\nHTTP/1.1 200 OK~Server: sws~Content-Type: text/html~Content-Length: 3~~hi\n",
+    ),
+];
+
 #[test]
-fn each_input_is_answered_with_these_bytes(rt: HostRuntime) -> Result<(), Fail> {
-    let rows = [
-        (INDEX, INDEX_SENT),
-        ("", ""),
-        ("GET / HTTP/1.1~Host: x~~GET /em", INDEX_SENT),
-        ("GET / HTTP/1.1~~GET / HTTP/1.1~Host: x~~", BAD_REQUEST),
-        (
-            "GET / HTTP/1.1~Host: x~Host: x~~GET / HTTP/1.1~Host: x~~",
-            BAD_REQUEST,
-        ),
-        ("GET /a%2Fb.txt HTTP/1.1~Host: x~~", TEXT_SENT),
-        ("GET /a/b.txt?q=1 HTTP/1.1~Host: x~~", TEXT_SENT),
-        ("GET http://h/a/b.txt HTTP/1.1~Host: x~~", TEXT_SENT),
-        (
-            "GET /%2e%2e/x HTTP/1.1~Host: x~~",
-            "HTTP/1.1 404 Not Found~Server: sws~Content-Type: text/plain~Content-Length: 14~~404 Not Found\n",
-        ),
-        (
-            "GET / HTTP/1.1~Host: x~~HEAD /a/b.txt HTTP/1.1~Host: x~~",
-            "HTTP/1.1 200 OK~Server: sws~Content-Type: text/html~Content-Length: 3~~hi\nHTTP/1.1 200 OK~Server: sws~Content-Type: text/plain~Content-Length: 10~~",
-        ),
-        (
-            "GET /empty.css HTTP/1.1~Host: x~~GET / HTTP/1.1~Host: x~~",
-            "HTTP/1.1 200 OK~Server: sws~Content-Type: text/css~Content-Length: 0~~HTTP/1.1 200 OK~Server: sws~Content-Type: text/html~Content-Length: 3~~hi\n",
-        ),
-        (
-            "POST / HTTP/1.1~Host: x~Content-Length: 5~~hello",
-            "HTTP/1.1 405 Method Not Allowed~Server: sws~Connection: close~Allow: GET, HEAD~Content-Type: text/plain~Content-Length: 23~~405 Method Not Allowed\n",
-        ),
-        (
-            "BREW / HTTP/1.1~Host: x~~GET / HTTP/1.1~Host: x~~",
-            "HTTP/1.1 501 Not Implemented~Server: sws~Content-Type: text/plain~Content-Length: 20~~501 Not Implemented\nHTTP/1.1 200 OK~Server: sws~Content-Type: text/html~Content-Length: 3~~hi\n",
-        ),
-    ];
-    for (input, wanted) in rows {
-        let said = say(&rt, "answer S", bytes_of(rt.alloc(), input)?)?;
-        said.is_done(&rt, input, &bytes_of(rt.alloc(), wanted)?);
+fn each_input_is_answered_with_these_bytes(rt: HostRuntime) {
+    for &(input, answer) in &ANSWERS {
+        let is_so = is_answered(&rt, "answer S", &[(input, 1)], &[(answer, 1)]);
+        assert!(rt; is_so == Ok(true), "{input}");
     }
-    Ok(())
+}
+
+/// Long inputs in pieces, and what is written of each.
+static LONG: [(&[Piece], &[Piece]); 5] = [
+    (
+        &[("GET / HTTP/1.1~Host: x~X:", 1), ("a", 8161), ("~~", 1)],
+        &[(INDEX_SENT, 1)],
+    ),
+    (
+        &[("GET / HTTP/1.1~Host: x~X:", 1), ("a", 8162), ("~~", 1)],
+        &[(TOO_LARGE, 1)],
+    ),
+    (&[("a", 8192)], &[(TOO_LARGE, 1)]),
+    (&[(INDEX, 65)], &[(INDEX_SENT, 63), (INDEX_SENT_LAST, 1)]),
+    (&[(BROWSER, 30)], &[(INDEX_SENT, 30)]),
+];
+
+#[test]
+fn long_heads_and_many_heads_are_answered_up_to_their_limits(rt: HostRuntime) {
+    for (row, &(input, answer)) in LONG.iter().enumerate() {
+        assert!(rt;
+            is_answered(&rt, "answer S", input, answer) == Ok(true),
+            "row {row}"
+        );
+    }
+}
+
+/// Empty lines before a request, a field too many, a byte that no field has, and lines without end.
+static HOSTILE: [(&[Piece], &[Piece]); 5] = [
+    (&[("~~", 1), (INDEX, 1)], &[(INDEX_SENT, 1)]),
+    (
+        &[("GET / HTTP/1.1~Host: x~", 1), ("a: b~", 63), ("~", 1)],
+        &[(INDEX_SENT, 1)],
+    ),
+    (
+        &[("GET / HTTP/1.1~Host: x~", 1), ("a: b~", 64), ("~", 1)],
+        &[(BAD_REQUEST, 1)],
+    ),
+    (
+        &[("GET / HTTP/1.1~Host: x~X: a", 1), ("\0", 1), ("b~~", 1)],
+        &[(BAD_REQUEST, 1)],
+    ),
+    (&[("\n", 65_536)], &[(TOO_LARGE, 1)]),
+];
+
+/// How many bytes a text has.
+fn len_of(alloc: Global, text: &'static str) -> Result<usize, AllocError> {
+    Ok(bytes_of(alloc, &[(text, 1)])?.len())
 }
 
 #[test]
-fn long_heads_and_many_heads_are_answered_up_to_their_limits(rt: HostRuntime) -> Result<(), Fail> {
-    let rows = [
-        (
-            "GET / HTTP/1.1~Host: x~X:",
-            "a",
-            8161,
-            "~~",
-            INDEX_SENT,
-            1,
-            "",
-        ),
-        (
-            "GET / HTTP/1.1~Host: x~X:",
-            "a",
-            8162,
-            "~~",
-            "",
-            0,
-            TOO_LARGE,
-        ),
-        ("", "a", 8192, "", "", 0, TOO_LARGE),
-        ("", INDEX, 65, "", INDEX_SENT, 63, INDEX_SENT_LAST),
-        ("", BROWSER, 30, "", INDEX_SENT, 30, ""),
-    ];
-    for (start, middle, times, end, answer, answers, last) in rows {
-        let mut input = bytes_of(rt.alloc(), start)?;
-        put(&mut input, middle, times)?;
-        put(&mut input, end, 1)?;
-        let mut wanted = Vec::new(rt.alloc());
-        put(&mut wanted, answer, answers)?;
-        put(&mut wanted, last, 1)?;
-        let row = format!(in rt.alloc(); "{middle} {times} times")?;
-        say(&rt, "answer S", input)?.is_done(&rt, row.as_str(), &wanted);
+fn hostile_bytes_are_answered_as_any_others(rt: HostRuntime) {
+    for (row, &(input, answer)) in HOSTILE.iter().enumerate() {
+        assert!(rt;
+            is_answered(&rt, "answer S", input, answer) == Ok(true),
+            "row {row}"
+        );
     }
-    Ok(())
+    assert!(rt; len_of(rt.alloc(), BAD_REQUEST) == Ok(122));
+    assert!(rt; len_of(rt.alloc(), TOO_LARGE) == Ok(162));
+}
+
+/// How many bytes the request for the index has.
+const INDEX_LEN: usize = 27;
+
+/// Whether so many bytes of two requests are there, and of the two those are answered that are whole.
+fn is_front_answered<T: AllocGlobal + Threads + Wait + Sync>(
+    rt: &T,
+    len: usize,
+) -> Result<bool, AllocError> {
+    let two = bytes_of(rt.alloc(), &[(INDEX, 2)])?;
+    let Some(front) = two.get(..len) else {
+        return Ok(false);
+    };
+    let said = say(rt, "answer S", front.to_vec(rt.alloc())?)?;
+    let answers = bytes_of(rt.alloc(), &[(INDEX_SENT, len / INDEX_LEN)])?;
+    Ok(two.len() == 2 * INDEX_LEN && said.is_done(&answers))
 }
 
 /// As much of two requests as has come: each is answered once it is whole.
 #[test]
-fn a_head_is_answered_once_it_is_whole(rt: HostRuntime) -> Result<(), Fail> {
-    let mut two = Vec::new(rt.alloc());
-    put(&mut two, INDEX, 2)?;
-    let one = two.len() / 2;
-    for len in 0..=two.len() {
-        let said = say(&rt, "answer S", two[..len].to_vec(rt.alloc())?)?;
-        let mut wanted = Vec::new(rt.alloc());
-        put(&mut wanted, INDEX_SENT, len.checked_div(one).unwrap_or(0))?;
-        let row = format!(in rt.alloc(); "{len} bytes")?;
-        said.is_done(&rt, row.as_str(), &wanted);
+fn a_head_is_answered_once_it_is_whole(rt: HostRuntime) {
+    for len in 0..=2 * INDEX_LEN {
+        assert!(rt; is_front_answered(&rt, len) == Ok(true), "{len} bytes");
     }
-    Ok(())
 }
 
-/// Empty lines before a request, a field too many, a byte that no field has, and lines without end.
-#[test]
-fn hostile_bytes_are_answered_as_any_others(rt: HostRuntime) -> Result<(), Fail> {
-    let rows = [
-        ("", "~~", 1, INDEX, INDEX_SENT),
-        ("GET / HTTP/1.1~Host: x~", "a: b~", 63, "~", INDEX_SENT),
-        ("GET / HTTP/1.1~Host: x~", "a: b~", 64, "~", BAD_REQUEST),
-        ("GET / HTTP/1.1~Host: x~X: a", "\0", 1, "b~~", BAD_REQUEST),
-        ("", "\n", 65_536, "", TOO_LARGE),
-    ];
-    for (start, middle, times, end, wanted) in rows {
-        let mut input = bytes_of(rt.alloc(), start)?;
-        put(&mut input, middle, times)?;
-        put(&mut input, end, 1)?;
-        let row = format!(in rt.alloc(); "{middle:?} {times} times")?;
-        let said = say(&rt, "answer S", input)?;
-        said.is_done(&rt, row.as_str(), &bytes_of(rt.alloc(), wanted)?);
-    }
-    assert!(rt; bytes_of(rt.alloc(), BAD_REQUEST)?.len() == 122);
-    assert!(rt; bytes_of(rt.alloc(), TOO_LARGE)?.len() == 162);
-    Ok(())
-}
+/// Dates of a request, and what is written of it.
+static DATES: [(&str, &str); 5] = [
+    ("Sun, 06 Nov 1994 08:49:37 GMT", NOT_MODIFIED),
+    ("Sunday, 06-Nov-94 08:49:37 GMT", NOT_MODIFIED),
+    ("Sun Nov  6 08:49:37 1994", NOT_MODIFIED),
+    ("Sun, 06 Nov 1994 08:49:36 GMT", INDEX_SENT_DATED),
+    ("yesterday", INDEX_SENT_DATED),
+];
 
 #[test]
-fn a_dated_site_answers_the_date_of_a_request(rt: HostRuntime) -> Result<(), Fail> {
-    let rows = [
-        ("Sun, 06 Nov 1994 08:49:37 GMT", NOT_MODIFIED),
-        ("Sunday, 06-Nov-94 08:49:37 GMT", NOT_MODIFIED),
-        ("Sun Nov  6 08:49:37 1994", NOT_MODIFIED),
-        ("Sun, 06 Nov 1994 08:49:36 GMT", INDEX_SENT_DATED),
-        ("yesterday", INDEX_SENT_DATED),
-    ];
-    for (value, wanted) in rows {
-        let mut input = bytes_of(rt.alloc(), "GET / HTTP/1.1~Host: x~If-Modified-Since: ")?;
-        put(&mut input, value, 1)?;
-        put(&mut input, "~~", 1)?;
-        let said = say(&rt, "answer S --date +0784111777", input)?;
-        said.is_done(&rt, value, &bytes_of(rt.alloc(), wanted)?);
+fn a_dated_site_answers_the_date_of_a_request(rt: HostRuntime) {
+    for &(date, answer) in &DATES {
+        let input = [
+            ("GET / HTTP/1.1~Host: x~If-Modified-Since: ", 1),
+            (date, 1),
+            ("~~", 1),
+        ];
+        let is_so = is_answered(&rt, "answer S --date +0784111777", &input, &[(answer, 1)]);
+        assert!(rt; is_so == Ok(true), "{date}");
     }
-    Ok(())
 }
 
-#[test]
-fn a_folder_over_a_limit_is_named_by_its_first_file_too_many(rt: HostRuntime) -> Result<(), Fail> {
+/// So many empty files of one letter, and one of this name behind them where it isn't empty.
+fn many_files(
+    alloc: Global,
+    count: usize,
+    last: &[u8],
+) -> Result<Vec<(Vec<u8>, Vec<u8>)>, AllocError> {
+    let mut files = Vec::new(alloc);
+    for _ in 0..count {
+        files.push(file(alloc, b"f", b""))?;
+    }
+    if !last.is_empty() {
+        files.push(file(alloc, last, b""))?;
+    }
+    Ok(files)
+}
+
+/// Whether a folder of so many files, and one with a name of so many bytes behind them, meets this
+/// limit.
+fn is_full<T: AllocGlobal + Threads + Wait + Sync>(
+    rt: &T,
+    count: usize,
+    len: usize,
+    limit: SiteLimit,
+) -> Result<bool, AllocError> {
     let alloc = rt.alloc();
-    let mut many = Vec::new(alloc);
-    for _ in 0..4097 {
-        many.push(file(alloc, b"f", b"")?)?;
-    }
-    let said = say_on(&rt, "answer S", many, Vec::new(alloc))?;
-    let full = TopFault::SiteFull(SiteLimit::Files { count: 4097 });
-    said.is_refused(&rt, "4097 files", 8, full);
-
-    let mut long = Vec::new(alloc);
-    long.push(file(alloc, b"f", b"")?)?;
-    long.push((vec![in alloc; b'n'; 1025]?, Vec::new(alloc)))?;
-    let said = say_on(&rt, "answer S", long, Vec::new(alloc))?;
-    let full = TopFault::SiteFull(SiteLimit::Name { number: 2 });
-    said.is_refused(&rt, "a name of 1025 bytes", 8, full);
-    Ok(())
+    let files = many_files(alloc, count, &vec![in alloc; b'n'; len]?)?;
+    let said = say_on(rt, "answer S", files, Vec::new(alloc))?;
+    Ok(said.is_refused(8, TopFault::SiteFull(limit)))
 }
 
 #[test]
-fn what_was_read_is_answered_before_a_fault(rt: HostRuntime) -> Result<(), Fail> {
+fn a_folder_over_a_limit_is_named_by_its_first_file_too_many(rt: HostRuntime) {
+    let limit = SiteLimit::Files { count: 4097 };
+    assert!(rt; is_full(&rt, 4097, 0, limit) == Ok(true), "4097 files");
+    let limit = SiteLimit::Name { number: 2 };
+    assert!(rt;
+        is_full(&rt, 1, 1025, limit) == Ok(true),
+        "a name of 1025 bytes"
+    );
+}
+
+/// How a request for the index ends where a call fails.
+#[derive(Clone, Copy, PartialEq, Eq)]
+enum Ended {
+    /// It is answered.
+    Answered,
+
+    /// Reading failed, with nothing written, and behind the whole answer.
+    Unread,
+    ReadNoMore,
+
+    /// Writing failed, with nothing written, and behind a part of the answer.
+    Unwritten,
+    Cut,
+
+    Otherwise,
+}
+
+/// How a run has ended whose answer is to be this.
+fn ended_of(said: &Said, answer: &[u8]) -> Ended {
+    let written = said.written.as_slice();
+    match (said.status, said.fault) {
+        (0, None) if written == answer => Ended::Answered,
+        (4, Some(TopFault::ReadFault)) if written.is_empty() => Ended::Unread,
+        (4, Some(TopFault::ReadFault)) if written == answer => Ended::ReadNoMore,
+        (5, Some(TopFault::WriteFault)) if written.is_empty() => Ended::Unwritten,
+        (5, Some(TopFault::WriteFault))
+            if written.len() < answer.len() && answer.starts_with(written) => { Ended::Cut }
+        _ => Ended::Otherwise,
+    }
+}
+
+/// How a request for the index ends where these calls fail.
+fn end_where<T: AllocGlobal + Threads + Wait + Sync>(
+    rt: &T,
+    failing: Failing,
+) -> Result<Ended, AllocError> {
+    let input = bytes_of(rt.alloc(), &[(INDEX, 1)])?;
+    let answer = bytes_of(rt.alloc(), &[(INDEX_SENT, 1)])?;
+    let said = say_failing(rt, "answer S", input, failing)?;
+    Ok(ended_of(&said, &answer))
+}
+
+#[test]
+fn what_was_read_is_answered_before_a_fault(rt: HostRuntime) {
     let reading = Failing {
         source: 2,
         ..NO_CALL
     };
-    let said = say_failing(&rt, "answer S", bytes_of(rt.alloc(), INDEX)?, reading)?;
-    assert!(rt; said.status == 4);
-    assert!(rt; said.written == bytes_of(rt.alloc(), INDEX_SENT)?);
-
+    assert!(rt; matches!(end_where(&rt, reading), Ok(Ended::ReadNoMore)));
     let writing = Failing { sink: 1, ..NO_CALL };
-    let said = say_failing(&rt, "answer S", bytes_of(rt.alloc(), INDEX)?, writing)?;
-    said.is_refused(&rt, "the first write", 5, TopFault::WriteFault);
-    Ok(())
+    assert!(rt; matches!(end_where(&rt, writing), Ok(Ended::Unwritten)));
 }
 
 /// A request is answered out of a folder that fails at a call: nothing is written; and out
 /// of one that does not fail.
 #[test]
-fn a_folder_that_fails_at_any_call_gives_no_answer(rt: HostRuntime) -> Result<(), Fail> {
-    let alloc = rt.alloc();
+fn a_folder_that_fails_at_any_call_gives_no_answer(rt: HostRuntime) {
     let mut failed: u32 = 0;
-    for number in 1..=100u32 {
-        let row = format!(in alloc; "call {number}")?;
-        let failing = Failing {
-            folder: number,
-            ..NO_CALL
-        };
-        let said = say_failing(&rt, "answer S", bytes_of(alloc, INDEX)?, failing)?;
-        if said.status == 0 {
-            said.is_done(&rt, row.as_str(), &bytes_of(alloc, INDEX_SENT)?);
-            break;
+    for folder in 1..=100u32 {
+        match end_where(&rt, Failing { folder, ..NO_CALL }) {
+            Ok(Ended::Answered) => break,
+            Ok(Ended::Unread) => failed = folder,
+            _ => panic!(rt; "call {folder}"),
         }
-        said.is_refused(&rt, row.as_str(), 4, TopFault::ReadFault);
-        failed = number;
     }
     // It is opened, each of three files is named and read to its end, and no other file follows.
     assert!(rt; (9..100).contains(&failed), "{failed} calls");
-    Ok(())
 }
 
 /// A request is answered into a sink that fails at a call: a front is written; and
 /// into one that does not fail.
 #[test]
-fn a_sink_that_fails_at_any_call_has_a_front_of_the_answer(rt: HostRuntime) -> Result<(), Fail> {
-    let alloc = rt.alloc();
-    let sent = bytes_of(alloc, INDEX_SENT)?;
+fn a_sink_that_fails_at_any_call_has_a_front_of_the_answer(rt: HostRuntime) {
     let mut failed: u32 = 0;
-    for number in 1..=100u32 {
-        let row = format!(in alloc; "call {number}")?;
-        let failing = Failing {
-            sink: number,
-            ..NO_CALL
-        };
-        let said = say_failing(&rt, "answer S", bytes_of(alloc, INDEX)?, failing)?;
-        if said.status == 0 {
-            said.is_done(&rt, row.as_str(), &sent);
-            break;
+    for sink in 1..=100u32 {
+        match end_where(&rt, Failing { sink, ..NO_CALL }) {
+            Ok(Ended::Answered) => break,
+            Ok(Ended::Unwritten | Ended::Cut) => failed = sink,
+            _ => panic!(rt; "call {sink}"),
         }
-        assert!(rt; said.status == 5, "{row}");
-        assert!(rt; sent.starts_with(&said.written), "{row}");
-        assert!(rt; said.written.len() < sent.len(), "{row}");
-        failed = number;
     }
     assert!(rt; (1..100).contains(&failed), "{failed} calls");
-    Ok(())
 }

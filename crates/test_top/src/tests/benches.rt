@@ -5,11 +5,11 @@ ghost use Rattle.mely_history.specs.Setup.{first_out_of_range};
 use mely_history::Shape;
 use std::alloc::Global;
 use std::sync::Wait;
-use std::test::Fail;
 use std::thread::Threads;
 use sws_bench::{bench, bench_script};
-use sws_link::SureSink;
-use sws_script::Item;
+use sws_link::{Memory, SureSink};
+use sws_replay::RunFault;
+use sws_script::{Item, ScriptConn};
 
 const ONE_WORKER: Shape = Shape {
     cores: 1,
@@ -28,56 +28,61 @@ const EIGHT_WORKERS: Shape = Shape {
 };
 
 /// One request in pieces of 23 bytes.
-#[test]
-fn one_connection(rt: HostRuntime) -> Result<(), Fail> {
-    let conns = bench_script(rt.alloc(), 1, 1)?;
-    assert!(rt; conns.len() == 1);
-    let items = conns[0].items.as_slice();
-    assert!(rt; items.len() == 2);
-    let Item::Send(first) = &items[0] else {
-        panic!(rt; "the first item is no piece");
-    };
-    let Item::Send(second) = &items[1] else {
-        panic!(rt; "the second item is no piece");
-    };
-    assert!(rt; first.bytes() == b"GET /f0.txt HTTP/1.1\r\nH".as_slice());
-    assert!(rt; second.bytes() == b"ost: b\r\n\r\n".as_slice());
-    Ok(())
+static PIECES: [&[u8]; 2] = [b"GET /f0.txt HTTP/1.1\r\nH", b"ost: b\r\n\r\n"];
+
+/// Whether each of these connections sends these pieces, and no others.
+fn send(conns: &[ScriptConn], pieces: &[&[u8]]) -> bool {
+    for conn in conns {
+        let mut places = pieces.iter();
+        for item in conn.items.as_slice() {
+            match (item, places.next()) {
+                (Item::Send(piece), Some(want)) if piece.bytes() == *want => {}
+                _ => return false,
+            }
+        }
+        if places.next().is_some() {
+            return false;
+        }
+    }
+    true
 }
 
-/// What is written of a bench on so many workers and shards.
-fn summary_of<R: Threads + Wait + Sync>(
+/// How many connections the script of a bench of so many has, where each sends these pieces.
+fn connections_of(alloc: Global, count: u16, pieces: &[&[u8]]) -> Result<Option<usize>, Memory> {
+    let conns = bench_script(alloc, count, 1)?;
+    Ok(send(&conns, pieces).then_some(conns.len()))
+}
+
+#[test]
+fn one_connection(rt: HostRuntime) {
+    assert!(rt; connections_of(rt.alloc(), 1, &PIECES) == Ok(Some(1)));
+}
+
+/// Whether this is written of a bench on so many workers and shards.
+fn is_summed_up<R: Threads + Wait + Sync>(
     rt: &R,
     alloc: Global,
     connections: u16,
     number: u32,
     shape: &Shape,
-) -> Result<SureSink, Fail>
+    summary: &[u8],
+) -> Result<bool, RunFault>
     requires few { connections ≤ 1024 }
     requires shape { first_out_of_range shape.now (connections + 2) 1 ≡ None }
 {
     let mut sink = SureSink::new(alloc);
     bench(rt, alloc, connections, number, shape, &mut sink)?;
-    Ok(sink)
+    Ok(sink.written() == summary)
 }
 
 /// One request is answered, with a file.
-#[test]
-fn one_request_is_counted(rt: HostRuntime) -> Result<(), Fail> {
-    let sink = summary_of(&rt, rt.alloc(), 1, 1, &ONE_WORKER)?;
-    assert!(rt;
-        sink.written() == b"connections 1 done 1 idle 0 fault 0\nread 33 written 142\n".as_slice()
-    );
-    Ok(())
-}
+const ONE: &[u8] = b"connections 1 done 1 idle 0 fault 0\nread 33 written 142\n";
 
 /// Many connections on several workers, with the numbers that another program found.
+const MANY: &[u8] = b"connections 1024 done 1024 idle 0 fault 0\nread 152988 written 2382941\n";
+
 #[test]
-fn many_connections_are_counted(rt: HostRuntime) -> Result<(), Fail> {
-    let sink = summary_of(&rt, rt.alloc(), 1024, 7, &EIGHT_WORKERS)?;
-    assert!(rt;
-        sink.written()
-            == b"connections 1024 done 1024 idle 0 fault 0\nread 152988 written 2382941\n".as_slice()
-    );
-    Ok(())
+fn connections_are_counted(rt: HostRuntime) {
+    assert!(rt; is_summed_up(&rt, rt.alloc(), 1, 1, &ONE_WORKER, ONE) == Ok(true));
+    assert!(rt; is_summed_up(&rt, rt.alloc(), 1024, 7, &EIGHT_WORKERS, MANY) == Ok(true));
 }

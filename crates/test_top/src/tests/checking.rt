@@ -1,8 +1,7 @@
 //! The command `check`.
-use super::{Failing, NO_CALL, Said, file, say, say_failing, say_on};
+use super::{Failing, NO_CALL, file, is_accepted, is_refused, is_written, say_failing, say_on};
 use std::alloc::{AllocError, Global};
 use std::sync::Wait;
-use std::test::Fail;
 use std::thread::Threads;
 use sws_bench::bench_script;
 use sws_script::{Input, Sequence, print};
@@ -11,7 +10,7 @@ use sws_top::TopFault;
 const LINE: &str = "check --connections 1 --workers 2 --cost 5";
 
 /// The entries of a run of one connection and one shard, in which core 1 steals the connection.
-const ENTRIES: [&str; 22] = [
+static ENTRIES: [&str; 22] = [
     "reg 0 0 0 2\n",
     "take 0 0 1\n",
     "reg 1 2 0 0\n",
@@ -49,63 +48,83 @@ fn journal(alloc: Global, first: &str, at: usize, instead: &str) -> Result<Vec<u
     Ok(text)
 }
 
-#[test]
-fn a_journal_is_accepted_with_its_sums(rt: HostRuntime) -> Result<(), Fail> {
-    let said = say(&rt, LINE, journal(rt.alloc(), "shard 0 22\n", 22, "")?)?;
-    said.is_done(&rt, LINE, REPORT.as_bytes());
-    Ok(())
+/// Whether the journal of these entries is accepted with its sums.
+fn is_summed_up<T: AllocGlobal + Threads + Wait + Sync>(rt: &T) -> Result<bool, AllocError> {
+    let text = journal(rt.alloc(), "shard 0 22\n", 22, "")?;
+    is_written(rt, LINE, &text, REPORT.as_bytes())
 }
 
 #[test]
-fn a_changed_journal_is_refused_where_it_goes_wrong(rt: HostRuntime) -> Result<(), Fail> {
-    let rows = [
-        ("shard 0 21\n", 4, "", 11, TopFault::NotLegal { line: 8 }),
-        (
-            "shard 0 21\n",
-            21,
-            "",
-            12,
-            TopFault::NotDrained { colour: 2 },
-        ),
-        (
-            "shard 0 22\n",
-            21,
-            "",
-            10,
-            TopFault::BadJournal { line: 23 },
-        ),
-        (
-            "shard 0 22\n",
-            8,
-            "steal 0 0 1\n",
-            11,
-            TopFault::NotLegal { line: 10 },
-        ),
-    ];
-    for (first, at, instead, status, fault) in rows {
-        let row = format!(in rt.alloc(); "{first:?} entry {at}")?;
-        let said = say(&rt, LINE, journal(rt.alloc(), first, at, instead)?)?;
-        said.is_refused(&rt, row.as_str(), status, fault);
+fn a_journal_is_accepted_with_its_sums(rt: HostRuntime) {
+    assert!(rt; is_summed_up(&rt) == Ok(true));
+}
+
+/// The first line of a journal, and the entry of which number stands how in it; and how the check of it
+/// ends.
+type Changed = (&'static str, usize, &'static str, u8, TopFault);
+
+static CHANGED: [Changed; 4] = [
+    ("shard 0 21\n", 4, "", 11, TopFault::NotLegal { line: 8 }),
+    (
+        "shard 0 21\n",
+        21,
+        "",
+        12,
+        TopFault::NotDrained { colour: 2 },
+    ),
+    (
+        "shard 0 22\n",
+        21,
+        "",
+        10,
+        TopFault::BadJournal { line: 23 },
+    ),
+    (
+        "shard 0 22\n",
+        8,
+        "steal 0 0 1\n",
+        11,
+        TopFault::NotLegal { line: 10 },
+    ),
+];
+
+/// Whether a journal that is changed so is refused so.
+fn is_refused_so<T: AllocGlobal + Threads + Wait + Sync>(
+    rt: &T,
+    &(first, at, instead, status, fault): &Changed,
+) -> Result<bool, AllocError> {
+    let text = journal(rt.alloc(), first, at, instead)?;
+    is_refused(rt, LINE, &text, status, fault)
+}
+
+#[test]
+fn a_changed_journal_is_refused_where_it_goes_wrong(rt: HostRuntime) {
+    for (row, changed) in CHANGED.iter().enumerate() {
+        assert!(rt; is_refused_so(&rt, changed) == Ok(true), "row {row}");
     }
-    Ok(())
+}
+
+/// Whether a check where these calls fail ends so.
+fn is_told<T: AllocGlobal + Threads + Wait + Sync>(
+    rt: &T,
+    failing: Failing,
+    status: u8,
+    fault: TopFault,
+) -> Result<bool, AllocError> {
+    let text = journal(rt.alloc(), "shard 0 22\n", 22, "")?;
+    Ok(say_failing(rt, LINE, text, failing)?.is_refused(status, fault))
 }
 
 /// The source fails at its second read, and the sink at its first write.
 #[test]
-fn a_check_tells_faults_of_the_outside(rt: HostRuntime) -> Result<(), Fail> {
+fn a_check_tells_faults_of_the_outside(rt: HostRuntime) {
     let reading = Failing {
         source: 2,
         ..NO_CALL
     };
-    let text = journal(rt.alloc(), "shard 0 22\n", 22, "")?;
-    let said = say_failing(&rt, LINE, text, reading)?;
-    said.is_refused(&rt, "the second read", 4, TopFault::ReadFault);
-
+    assert!(rt; is_told(&rt, reading, 4, TopFault::ReadFault) == Ok(true));
     let writing = Failing { sink: 1, ..NO_CALL };
-    let text = journal(rt.alloc(), "shard 0 22\n", 22, "")?;
-    let said = say_failing(&rt, LINE, text, writing)?;
-    said.is_refused(&rt, "the first write", 5, TopFault::WriteFault);
-    Ok(())
+    assert!(rt; is_told(&rt, writing, 5, TopFault::WriteFault) == Ok(true));
 }
 
 /// The letters of the bench's file of this number: 64 more than those of the file before
@@ -124,7 +143,7 @@ fn bench_files(alloc: Global) -> Result<Vec<(Vec<u8>, Vec<u8>)>, AllocError> {
     let mut files = Vec::new(alloc);
     for number in 0..16 {
         let name = format!(in alloc; "f{number}.txt")?;
-        files.push(file(alloc, name.as_bytes(), &letters(alloc, number)?)?)?;
+        files.push(file(alloc, name.as_bytes(), &letters(alloc, number)?))?;
     }
     Ok(files)
 }
@@ -139,34 +158,43 @@ fn bench_text(alloc: Global) -> Option<Vec<u8>> {
     print(alloc, &input, false).ok()
 }
 
-/// Runs these words on the site of a bench, with this input.
-fn say_on_bench<T: AllocGlobal + Threads + Wait + Sync>(
+/// What these words write on the site of a bench with this script, where they are done.
+fn of_bench<T: AllocGlobal + Threads + Wait + Sync>(
     rt: &T,
     line: &str,
-    input: &[u8],
-) -> Result<Said, AllocError> {
+    script: &[u8],
+) -> Result<Option<Vec<u8>>, AllocError> {
     let alloc = rt.alloc();
-    say_on(rt, line, bench_files(alloc)?, input.to_vec(alloc)?)
+    let said = say_on(rt, line, bench_files(alloc)?, script.to_vec(alloc)?)?;
+    Ok((said.status == 0).then_some(said.written))
 }
 
-/// What a run on eight threads prints behind its transcript is the journal of
-/// a legal and drained run.
-#[test]
-fn the_journal_of_a_bench_is_accepted(rt: HostRuntime) -> Result<(), Fail> {
+/// What a replay of a bench on eight threads prints behind its transcript, or nothing where it isn't
+/// done.
+fn bench_journal<T: AllocGlobal + Threads + Wait + Sync>(rt: &T) -> Result<Vec<u8>, AllocError> {
     let script = bench_text(rt.alloc()).unwrap_or(Vec::new(rt.alloc()));
-    let alone = say_on_bench(&rt, "replay B", &script)?;
-    assert!(rt; alone.status == 0);
     let line = "replay B --workers 8 --shards 4 --journal";
-    let shown = say_on_bench(&rt, line, &script)?;
-    assert!(rt; shown.status == 0);
-    assert!(rt; shown.written.starts_with(&alone.written));
-    let journal = shown.written.get(alone.written.len()..).unwrap_or(&[]);
-    assert!(rt; journal.starts_with(b"shard 0 "));
+    let alone = of_bench(rt, "replay B", &script)?;
+    let shown = of_bench(rt, line, &script)?;
+    match (alone, shown) {
+        (Some(alone), Some(shown)) => behind(&shown, &alone).to_vec(rt.alloc()),
+        _ => Ok(Vec::new(rt.alloc())),
+    }
+}
 
+/// What stands behind this front, or nothing where that isn't the front.
+fn behind<'b>(bytes: &'b [u8], front: &[u8]) -> &'b [u8] {
+    bytes.strip_prefix(front).unwrap_or(&[])
+}
+
+/// Whether that is the journal of a legal and drained run.
+fn is_bench_accepted<T: AllocGlobal + Threads + Wait + Sync>(rt: &T) -> Result<bool, AllocError> {
+    let journal = bench_journal(rt)?;
     let line = "check --connections 8 --workers 8 --shards 4";
-    let said = say(&rt, line, journal.to_vec(rt.alloc())?)?;
-    assert!(rt; said.fault == None);
-    assert!(rt; said.status == 0);
-    assert!(rt; said.written.starts_with(b"accepted "));
-    Ok(())
+    Ok(journal.starts_with(b"shard 0 ") && is_accepted(rt, line, &journal)?)
+}
+
+#[test]
+fn the_journal_of_a_bench_is_accepted(rt: HostRuntime) {
+    assert!(rt; is_bench_accepted(&rt) == Ok(true));
 }

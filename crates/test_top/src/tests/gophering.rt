@@ -1,8 +1,13 @@
 //! The command `gopher`.
-use super::serving::{serve, two_clients};
-use super::{bytes_of, file, say, say_on};
-use std::test::Fail;
+use super::serving::serve_two;
+use super::{bytes_of, file, is_accepted, is_refused, is_written, say, say_on};
+use std::alloc::AllocError;
+use std::sync::Wait;
+use std::thread::Threads;
 use sws_top::TopFault;
+
+/// Words that run a script by Gopher.
+const LINE: &str = "gopher S --host h --port 70";
 
 /// A script of selectors: the site's menu, a folder's, with a slash and without, each of the files,
 /// one that isn't there, a line that doesn't end, and one that is too long.
@@ -20,88 +25,98 @@ const THRICE_SHOWN: &[u8] =
     b"conn 0 done 74\n| 1a\\t/a/\\th\\t70~\n| 0empty.css\\t/empty.css\\th\\t70~\n| 0index.html\\t/index.html\\th\\t70~\n| .~\nconn 1 done 74\n| 1a\\t/a/\\th\\t70~\n| 0empty.css\\t/empty.css\\th\\t70~\n| 0index.html\\t/index.html\\th\\t70~\n| .~\nconn 2 done 74\n| 1a\\t/a/\\th\\t70~\n| 0empty.css\\t/empty.css\\th\\t70~\n| 0index.html\\t/index.html\\th\\t70~\n| .~\n";
 
 #[test]
-fn each_selector_has_its_answer(rt: HostRuntime) -> Result<(), Fail> {
-    let line = "gopher S --host h --port 70";
-    let said = say(&rt, line, SELECTORS.to_vec(rt.alloc())?)?;
-    said.is_done(&rt, line, ANSWERS);
-    Ok(())
+fn each_selector_has_its_answer(rt: HostRuntime) {
+    assert!(rt; is_written(&rt, LINE, SELECTORS, ANSWERS) == Ok(true));
 }
 
-#[test]
-fn a_full_stop_in_front_is_doubled(rt: HostRuntime) -> Result<(), Fail> {
-    let mut files = Vec::new(rt.alloc());
-    files.push(file(rt.alloc(), b"d.txt", b".x\n..")?)?;
-    let line = "gopher S --host h --port 70";
+/// Whether a file of lines with a full stop in front is sent so.
+fn is_doubled<T: AllocGlobal + Threads + Wait + Sync>(rt: &T) -> Result<bool, AllocError> {
+    let files = vec![in rt.alloc(); file(rt.alloc(), b"d.txt", b".x\n..")]?;
     let script = b"sws-script 1\nconn\nsend /d.txt~\n".to_vec(rt.alloc())?;
-    let said = say_on(&rt, line, files, script)?;
-    said.is_done(&rt, line, b"conn 0 done 13\n| ..x~\n| ...~\n| .~\n");
-    Ok(())
+    let said = say_on(rt, LINE, files, script)?;
+    Ok(said.is_done(b"conn 0 done 13\n| ..x~\n| ...~\n| .~\n"))
 }
 
 #[test]
-fn a_transcript_is_the_same_for_every_shape(rt: HostRuntime) -> Result<(), Fail> {
+fn a_full_stop_in_front_is_doubled(rt: HostRuntime) {
+    assert!(rt; is_doubled(&rt) == Ok(true));
+}
+
+/// Whether the transcript is the same on so many workers and shards.
+fn is_same<T: AllocGlobal + Threads + Wait + Sync>(
+    rt: &T,
+    workers: u16,
+    shards: u16,
+) -> Result<bool, AllocError> {
+    let line = format!(in rt.alloc(); "{LINE} --workers {workers} --shards {shards}")?;
+    is_written(rt, line.as_str(), THRICE, THRICE_SHOWN)
+}
+
+#[test]
+fn a_transcript_is_the_same_for_every_shape(rt: HostRuntime) {
     for shards in [1, 4] {
         for workers in [1, 2, 8] {
-            let line = format!(in rt.alloc();
-                "gopher S --host h --port 70 --workers {workers} --shards {shards}"
-            )?;
-            let said = say(&rt, line.as_str(), THRICE.to_vec(rt.alloc())?)?;
-            said.is_done(&rt, line.as_str(), THRICE_SHOWN);
+            assert!(rt;
+                is_same(&rt, workers, shards) == Ok(true),
+                "{workers} and {shards}"
+            );
         }
     }
-    Ok(())
 }
 
-#[test]
-fn its_journal_is_accepted(rt: HostRuntime) -> Result<(), Fail> {
+/// Whether the journal behind the transcript is accepted.
+fn is_journal_accepted<T: AllocGlobal + Threads + Wait + Sync>(rt: &T) -> Result<bool, AllocError> {
     let line = "gopher S --host h --port 70 --workers 2 --shards 4 --journal";
-    let said = say(&rt, line, THRICE.to_vec(rt.alloc())?)?;
-    let Some(journal) = said.written.as_slice().strip_prefix(THRICE_SHOWN) else {
-        panic!(&rt; "the transcript");
-    };
-    let line = "check --connections 3 --workers 2 --shards 4";
-    let checked = say(&rt, line, journal.to_vec(rt.alloc())?)?;
-    assert!(&rt; checked.fault == None);
-    assert!(&rt; checked.written.as_slice().starts_with(b"accepted "));
-    Ok(())
-}
-
-#[test]
-fn connections_from_outside_are_summed_up(rt: HostRuntime) -> Result<(), Fail> {
-    let line = "gopher S --host h --port 70 --connections 2";
-    let (outcome, written) = serve(&rt, line, two_clients(rt.alloc(), "~", 0)?)?;
-    let summary = b"connections 2 done 2 idle 0 fault 0\nread 4 written 148\n";
-    assert!(&rt; outcome.status == 0);
-    assert!(&rt; written.as_slice() == summary.as_slice());
-    let Some(ended) = &outcome.ended else {
-        panic!(&rt; "a run");
-    };
-    let menu = bytes_of(
-        rt.alloc(),
-        "1a\t/a/\th\t70~0empty.css\t/empty.css\th\t70~0index.html\t/index.html\th\t70~.~",
-    )?;
-    for conn in &ended.served {
-        let Some(link) = &conn.link else {
-            panic!(&rt; "a link");
-        };
-        assert!(&rt; link.written() == menu.as_slice());
+    let said = say(rt, line, THRICE.to_vec(rt.alloc())?)?;
+    match said.written.as_slice().strip_prefix(THRICE_SHOWN) {
+        Some(journal) => {
+            is_accepted(rt, "check --connections 3 --workers 2 --shards 4", journal)
+        }
+        None => Ok(false),
     }
-    Ok(())
 }
 
 #[test]
-fn a_world_that_does_not_open_is_told(rt: HostRuntime) -> Result<(), Fail> {
-    let line = "gopher S --host h --port 70 --connections 2";
-    let (outcome, written) = serve(&rt, line, two_clients(rt.alloc(), "~", 1)?)?;
-    assert!(&rt; outcome.fault == Some(TopFault::WorldFault));
-    assert!(&rt; written.len() == 0);
-    Ok(())
+fn its_journal_is_accepted(rt: HostRuntime) {
+    assert!(rt; is_journal_accepted(&rt) == Ok(true));
+}
+
+/// Words that serve two connections by Gopher.
+const SERVES: &str = "gopher S --host h --port 70 --connections 2";
+
+const MENU: &str =
+    "1a\t/a/\th\t70~0empty.css\t/empty.css\th\t70~0index.html\t/index.html\th\t70~.~";
+
+/// Whether two clients from outside get the menu, and are summed up.
+fn is_summed_up<T: AllocGlobal + Threads + Wait + Sync>(rt: &T) -> Result<bool, AllocError> {
+    let clients = serve_two(rt, SERVES, "~", 0)?;
+    let menu = bytes_of(rt.alloc(), &[(MENU, 1)])?;
+    let summary = b"connections 2 done 2 idle 0 fault 0\nread 4 written 148\n".as_slice();
+    Ok(
+        clients.fault == None
+            && clients.written.as_slice() == summary
+            && clients.are_served(2, &menu),
+    )
 }
 
 #[test]
-fn a_script_out_of_the_grammar_is_refused(rt: HostRuntime) -> Result<(), Fail> {
-    let line = "gopher S --host h --port 70";
-    let said = say(&rt, line, b"sws-script 1\nhello\n".to_vec(rt.alloc())?)?;
-    said.is_refused(&rt, line, 3, TopFault::BadScript { line: 2 });
-    Ok(())
+fn connections_from_outside_are_summed_up(rt: HostRuntime) {
+    assert!(rt; is_summed_up(&rt) == Ok(true));
+}
+
+/// Whether a world that doesn't open is told.
+fn is_world_told<T: AllocGlobal + Threads + Wait + Sync>(rt: &T) -> Result<bool, AllocError> {
+    let clients = serve_two(rt, SERVES, "~", 1)?;
+    Ok(clients.fault == Some(TopFault::WorldFault) && clients.written.is_empty())
+}
+
+#[test]
+fn a_world_that_does_not_open_is_told(rt: HostRuntime) {
+    assert!(rt; is_world_told(&rt) == Ok(true));
+}
+
+#[test]
+fn a_script_out_of_the_grammar_is_refused(rt: HostRuntime) {
+    let fault = TopFault::BadScript { line: 2 };
+    assert!(rt; is_refused(&rt, LINE, b"sws-script 1\nhello\n", 3, fault) == Ok(true));
 }

@@ -9,7 +9,6 @@ use mely_event::Handlers;
 use mely_history::{Setup, Shape};
 use std::process::Abort;
 use std::sync::Wait;
-use std::test::Fail;
 use std::thread::Threads;
 use sws_conn::End;
 use sws_link::{MemSink, Sink, SureFolder, SureSink};
@@ -34,18 +33,17 @@ const TWO: Shape = Shape {
 };
 
 /// A site of two files.
+static FILES: [(&[u8], &[u8]); 2] = [(b"index.html", b"hi\n"), (b"empty.css", b"")];
+
 fn site(rt: &(impl AllocGlobal + Abort)) -> Site {
     let mut files = Vec::new(rt.alloc());
-    let contents: [(&[u8], &[u8]); 2] = [(b"index.html", b"hi\n"), (b"empty.css", b"")];
-    for (name, bytes) in contents {
+    for &(name, bytes) in &FILES {
         let name = Vec::from_slice(rt.alloc(), name).expect(rt, "memory");
         let bytes = Vec::from_slice(rt.alloc(), bytes).expect(rt, "memory");
         files.push((name, bytes)).expect(rt, "memory");
     }
-    match Site::load(rt.alloc(), &mut SureFolder::new(rt.alloc(), files), None) {
-        Ok(site) => site,
-        Err(_) => panic!(rt; "the site is not loaded"),
-    }
+    let site = Site::load(rt.alloc(), &mut SureFolder::new(rt.alloc(), files), None);
+    site.ok().expect(rt, "the site is loaded")
 }
 
 /// The input of a text for a run of this shape.
@@ -90,105 +88,137 @@ fn replayed<O: Sink>(
 }
 
 /// How a connection has ended, and how many bytes were read of it and written to it.
-type Ended = (Option<End>, u64, u64);
+type Left = (Option<End>, u64, u64);
 
-/// Runs a script on two workers: what was served.
-fn ran(rt: &(impl AllocGlobal + Abort + Threads + Wait + Sync), script: &[u8]) -> Vec<Ended> {
+/// Whether a run of a script on two workers leaves these.
+fn leaves(
+    rt: &(impl AllocGlobal + Abort + Threads + Wait + Sync),
+    script: &[u8],
+    wanted: &[Left],
+) -> bool {
     let input = read(rt, script, false, &TWO);
-    let Ok(run) = run_script(
-        rt,
-        rt.alloc(),
-        &site(rt),
-        &TWO,
-        input.conns.as_slice(),
-        false,
-        false,
-    ) else {
-        panic!(rt; "no memory");
+    let site = site(rt);
+    let conns = input.conns.as_slice();
+    let Ok(run) = run_script(rt, rt.alloc(), &site, &TWO, conns, false, false) else {
+        return false;
     };
-    let mut all = Vec::new(rt.alloc());
-    for served in &run.served {
-        all.push((served.end, served.read, served.written))
-            .expect(rt, "memory");
+    for (conn, left) in run.served.iter().zip(wanted) {
+        if (conn.end, conn.read, conn.written) != *left {
+            return false;
+        }
     }
-    all
+    run.served.len() == wanted.len()
 }
 
-/// The replay of a text by its schedule writes what is expected.
-fn scheduled(rt: &(impl AllocGlobal + Abort + Wait), text: &[u8], expected: &[u8]) {
+/// Whether the replay of a text by its schedule writes this.
+fn is_scheduled(rt: &(impl AllocGlobal + Abort + Wait), text: &[u8], expected: &[u8]) -> bool {
     let input = read(rt, text, true, &TWO);
     let mut sink = SureSink::new(rt.alloc());
     let wrote = replay_by_schedule(rt, rt.alloc(), &site(rt), &TWO, &input, false, &mut sink);
-    assert!(rt; wrote == Ok(()));
-    assert!(rt; sink.written() == expected);
+    wrote == Ok(()) && sink.written() == expected
 }
 
-/// The script of three connections is written so on this shape: without its journal, and behind that
-/// once more with it.
+/// Whether a text is the transcript of three connections and that once more, with a journal behind it.
+fn is_twice(written: &[u8]) -> bool {
+    let Some(again) = written.strip_prefix(THREE_SHOWN) else {
+        return false;
+    };
+    match again.strip_prefix(THREE_SHOWN) {
+        Some(journal) => journal.starts_with(b"shard 0 "),
+        None => false,
+    }
+}
+
+/// Whether the script of three connections is written so on this shape: without its journal, and behind
+/// that once more with it.
 fn three_are_written(
     rt: &(impl AllocGlobal + Abort + Threads + Wait + Sync),
-    row: &str,
-    shape: &Shape,
-) {
+    cores: u16,
+    shards: u16,
+) -> bool {
+    let shape = Shape {
+        cores,
+        shards,
+        ..PLAIN
+    };
     let mut sink = SureSink::new(rt.alloc());
-    let wrote = replayed(rt, THREE, shape, false, &mut sink);
-    assert!(rt; wrote == Ok(()), "{row}");
-    assert!(rt; sink.written() == THREE_SHOWN, "{row}");
-    let wrote = replayed(rt, THREE, shape, true, &mut sink);
-    assert!(rt; wrote == Ok(()), "{row}");
-    let Some(again) = sink.written().strip_prefix(THREE_SHOWN) else {
-        panic!(rt; "the first text on {row}");
-    };
-    let Some(journal) = again.strip_prefix(THREE_SHOWN) else {
-        panic!(rt; "the transcript again on {row}");
-    };
-    assert!(rt; journal.starts_with(b"shard 0 "), "{row}");
+    let wrote = replayed(rt, THREE, &shape, false, &mut sink);
+    let is_first = wrote == Ok(()) && sink.written() == THREE_SHOWN;
+    let wrote = replayed(rt, THREE, &shape, true, &mut sink);
+    is_first && wrote == Ok(()) && is_twice(sink.written())
 }
 
 #[test]
-fn three_connections_are_written_so_whatever_the_workers_are(rt: HostRuntime) -> Result<(), Fail> {
+fn three_connections_are_written_so_whatever_the_workers_are(rt: HostRuntime) {
     for shards in [1, 4] {
         for cores in [1, 2, 8] {
-            let row = format!(in rt.alloc(); "{cores} workers and {shards} shards")?;
-            let shape = Shape {
-                cores,
-                shards,
-                ..PLAIN
-            };
-            three_are_written(&rt, row.as_str(), &shape);
+            assert!(rt;
+                three_are_written(&rt, cores, shards),
+                "{cores} and {shards}"
+            );
         }
     }
-    Ok(())
 }
+
+/// What the script of three connections leaves.
+static THREE_LEAVE: [Left; 3] = [
+    (Some(End::Done), 27, 79),
+    (Some(End::Done), 36, 75),
+    (Some(End::Done), 0, 0),
+];
 
 #[test]
 fn a_run_leaves_what_was_served(rt: HostRuntime) {
-    let rows = [
-        (Some(End::Done), 27, 79),
-        (Some(End::Done), 36, 75),
-        (Some(End::Done), 0, 0),
-    ];
-    assert!(rt; ran(&rt, THREE).as_slice() == rows.as_slice());
+    assert!(rt; leaves(&rt, THREE, &THREE_LEAVE));
 }
 
 #[test]
 fn worked_schedules_write_their_texts(rt: HostRuntime) {
-    scheduled(&rt, STOLEN, STOLEN_SHOWN);
-    scheduled(&rt, SHORT, SHORT_SHOWN);
+    assert!(rt; is_scheduled(&rt, STOLEN, STOLEN_SHOWN));
+    assert!(rt; is_scheduled(&rt, SHORT, SHORT_SHOWN));
+}
+
+/// Whether a replay with its journal tells of a sink that fails at its second call, and leaves a front of
+/// the transcript there.
+fn is_sink_told(rt: &(impl AllocGlobal + Abort + Threads + Wait + Sync)) -> bool {
+    let failing = Vec::from_slice(rt.alloc(), &[2]).expect(rt, "memory");
+    let mut sink = MemSink::new(rt.alloc(), failing);
+    let wrote = replayed(rt, THREE, &TWO, true, &mut sink);
+    wrote == Err(RunFault::Write)
+        && sink.written().starts_with(b"conn 0 done 79\n")
+        && THREE_SHOWN.starts_with(sink.written())
 }
 
 #[test]
 fn a_sink_that_fails_is_told(rt: HostRuntime) {
-    let failing = Vec::from_slice(rt.alloc(), &[2]).expect(&rt, "memory");
-    let mut sink = MemSink::new(rt.alloc(), failing);
-    let wrote = replayed(&rt, THREE, &TWO, true, &mut sink);
-    assert!(rt; wrote == Err(RunFault::Write));
-    assert!(rt; sink.written().starts_with(b"conn 0 done 79\n"));
-    assert!(rt; THREE_SHOWN.strip_prefix(sink.written()).is_some() == true);
+    assert!(rt; is_sink_told(&rt));
 }
 
 /// Two connections of one byte each.
 const TWO_BYTES: &[u8] = b"sws-script 1\nconn\nsend a\nconn\nsend b\n";
+
+/// Whether a script is replayed so in a room, on two workers.
+fn is_replayed_in<R: AllocGlobal + Abort + Threads + Wait + Sync>(
+    rt: &R,
+    room: &Room<'_>,
+    script: &[u8],
+    shown: &[u8],
+) -> bool {
+    let input = read(rt, script, false, &TWO);
+    let conns = input.conns.as_slice();
+    let mut sink = SureSink::new(rt.alloc());
+    let wrote = replay_talks::<R, MeetingConn<'_>, SureSink>(
+        rt,
+        rt.alloc(),
+        room,
+        &TWO,
+        conns,
+        false,
+        false,
+        &mut sink,
+    );
+    wrote == Ok(()) && sink.written() == shown
+}
 
 /// Each of two connections waits at its first read for the other, which one worker alone never reads:
 /// so a replay on two workers has two threads. Those of HTTP and of a bench are made by the same call
@@ -196,20 +226,7 @@ const TWO_BYTES: &[u8] = b"sws-script 1\nconn\nsend a\nconn\nsend b\n";
 #[test]
 fn two_workers_replay_at_once(rt: HostRuntime) {
     let room = Room::new(&rt);
-    let input = read(&rt, TWO_BYTES, false, &TWO);
-    let conns = input.conns.as_slice();
-    let mut sink = SureSink::new(rt.alloc());
-    let wrote = replay_talks::<HostRuntime, MeetingConn<'_>, SureSink>(
-        &rt,
-        rt.alloc(),
-        &room,
-        &TWO,
-        conns,
-        false,
-        false,
-        &mut sink,
-    );
-    assert!(rt; wrote == Ok(()));
+    let shown = b"conn 0 done 0\nconn 1 done 0\n";
+    assert!(rt; is_replayed_in(&rt, &room, TWO_BYTES, shown));
     assert!(rt; !room.was_missed());
-    assert!(rt; sink.written() == b"conn 0 done 0\nconn 1 done 0\n".as_slice());
 }

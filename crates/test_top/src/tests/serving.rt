@@ -3,38 +3,37 @@ ghost use Rattle.std.specs.Prelude.{IfOk};
 ghost use Rattle.sws_link.specs.MemWorlds.{IsInitialMemLink};
 
 use super::meeting::{Meeting, Room};
-use super::{INDEX, INDEX_SENT, bytes_of, run, small_files};
+use super::{INDEX, INDEX_SENT, bytes_of, one_call, run, small_files};
 use std::alloc::{AllocError, Global};
 use std::sync::Wait;
-use std::test::Fail;
 use std::thread::Threads;
 use sws_conn::End;
 use sws_link::{Link, LinkItem, MemLink, MemWorld, SureFolder, SureSink, SureSource, World};
-use sws_top::Outcome;
+use sws_top::{Outcome, TopFault};
 
 /// What is written where both clients were served.
 pub(super) const SUMMARY: &[u8] = b"connections 2 done 2 idle 0 fault 0\nread 54 written 158\n";
 
 /// A link whose client sends this text.
-fn asking(alloc: Global, text: &str) -> Result<MemLink, AllocError>
+fn asking(alloc: Global, text: &'static str) -> Result<MemLink, AllocError>
     ensures { IfOk result IsInitialMemLink }
 {
-    let mut items = Vec::new(alloc);
-    items.push(LinkItem::Bytes(bytes_of(alloc, text)?))?;
+    let bytes = bytes_of(alloc, &[(text, 1)])?;
+    let items = vec![in alloc; LinkItem::Bytes(bytes)]?;
     Ok(MemLink::new(alloc, items, None, None, Vec::new(alloc)))
 }
 
 /// A world of two such links, which fails at this call, where it is one of its calls.
-pub(super) fn two_clients(alloc: Global, text: &str, failing: u32) -> Result<MemWorld, AllocError> {
-    let mut links = Vec::new(alloc);
-    links.push(asking(alloc, text)?)?;
-    links.push(asking(alloc, text)?)?;
-    Ok(MemWorld::new(links, vec![in alloc; failing]?))
+fn two_clients(alloc: Global, text: &'static str, failing: u32) -> Result<MemWorld, AllocError> {
+    let first = asking(alloc, text)?;
+    let second = asking(alloc, text)?;
+    let links = vec![in alloc; first, second]?;
+    Ok(MemWorld::new(links, one_call(alloc, failing)))
 }
 
 /// Serves the small site to the links of a world by these words: how that ended, and what was
 /// written.
-pub(super) fn serve<T: AllocGlobal + Threads + Wait + Sync, W: World + Drop + Send>(
+fn serve<T: AllocGlobal + Threads + Wait + Sync, W: World + Drop + Send>(
     rt: &T,
     line: &str,
     world: W,
@@ -52,37 +51,61 @@ where
 
 /// What has become of two clients.
 #[derive(Drop)]
-struct Clients {
+pub(super) struct Clients {
     status: u8,
+    pub(super) fault: Option<TopFault>,
 
     /// Whether the world was opened, and whether it was handed back.
     opened: bool,
     back: bool,
-    written: Vec<u8>,
+    pub(super) written: Vec<u8>,
 
     /// How the connection of each link that was accepted has ended, and what was written to it.
     served: Vec<(Option<End>, Vec<u8>)>,
 }
 
-/// Serves two clients who ask for the index, in a world that fails at this call,
-/// where it is one of its calls.
-fn serve_two<T: AllocGlobal + Threads + Wait + Sync>(
-    rt: &T,
-    failing: u32,
-) -> Result<Clients, AllocError> {
-    let alloc = rt.alloc();
-    let line = "serve S --port 8080 --connections 2";
-    let (outcome, written) = serve(rt, line, two_clients(alloc, INDEX, failing)?)?;
-    let mut served = Vec::new(alloc);
+impl Clients {
+    /// Whether so many were served, and each of them was written this and is done.
+    pub(super) fn are_served(&self, count: usize, sent: &[u8]) -> bool {
+        for (end, written) in &self.served {
+            if *end != Some(End::Done) || written.as_slice() != sent {
+                return false;
+            }
+        }
+        self.served.len() == count
+    }
+}
+
+/// How each connection of a run has ended that has a link, and what was written to it.
+fn sent_by(
+    alloc: Global,
+    outcome: &Outcome<MemWorld>,
+) -> Result<Vec<(Option<End>, Vec<u8>)>, AllocError> {
+    let mut sent = Vec::new(alloc);
     if let Some(ended) = &outcome.ended {
         for conn in &ended.served {
             if let Some(link) = &conn.link {
-                served.push((conn.end, link.written().to_vec(alloc)?))?;
+                sent.push((conn.end, link.written().to_vec(alloc)?))?;
             }
         }
     }
+    Ok(sent)
+}
+
+/// Serves two clients who send this text by these words, in a world that fails at this call, where it
+/// is one of its calls.
+pub(super) fn serve_two<T: AllocGlobal + Threads + Wait + Sync>(
+    rt: &T,
+    line: &str,
+    text: &'static str,
+    failing: u32,
+) -> Result<Clients, AllocError> {
+    let alloc = rt.alloc();
+    let (outcome, written) = serve(rt, line, two_clients(alloc, text, failing)?)?;
+    let served = sent_by(alloc, &outcome)?;
     Ok(Clients {
         status: outcome.status,
+        fault: outcome.fault,
         opened: outcome.ended.is_some(),
         back: outcome.world.is_some(),
         written,
@@ -90,56 +113,65 @@ fn serve_two<T: AllocGlobal + Threads + Wait + Sync>(
     })
 }
 
-#[test]
-fn a_world_that_fails_ends_the_run(rt: HostRuntime) -> Result<(), Fail> {
-    let sent = bytes_of(rt.alloc(), INDEX_SENT)?;
-    let rows = [
-        (1, 6, 0),
-        (2, 6, 0),
-        (3, 6, 0),
-        (4, 6, 1),
-        (5, 6, 1),
-        (6, 0, 2),
-    ];
-    for (failing, status, served) in rows {
-        let clients = serve_two(&rt, failing)?;
-        assert!(rt; clients.status == status, "call {failing}");
-        assert!(rt; clients.opened == (failing != 1), "call {failing}");
-        assert!(rt; clients.back == (failing == 1), "call {failing}");
-        let wanted = if status == 0 { SUMMARY } else { b"" };
-        assert!(rt; clients.written.as_slice() == wanted, "call {failing}");
-        for (end, written) in &clients.served {
-            assert!(rt; written.as_slice() == sent.as_slice(), "call {failing}");
-            assert!(rt; *end == Some(End::Done), "call {failing}");
-        }
-        assert!(rt; clients.served.len() == served, "call {failing}");
-    }
-    Ok(())
+/// The call of a world that fails, the status of the run, and how many clients are served.
+static FAILING: [(u32, u8, usize); 6] = [
+    (1, 6, 0),
+    (2, 6, 0),
+    (3, 6, 0),
+    (4, 6, 1),
+    (5, 6, 1),
+    (6, 0, 2),
+];
+
+/// Whether a run for two clients who ask for the index ends so in a world that fails at this call.
+fn ends_so<T: AllocGlobal + Threads + Wait + Sync>(
+    rt: &T,
+    failing: u32,
+    status: u8,
+    served: usize,
+) -> Result<bool, AllocError> {
+    let clients = serve_two(rt, "serve S --port 8080 --connections 2", INDEX, failing)?;
+    let sent = bytes_of(rt.alloc(), &[(INDEX_SENT, 1)])?;
+    let written = if status == 0 { SUMMARY } else { b"" };
+    Ok(
+        clients.status == status
+            && clients.opened == (failing != 1)
+            && clients.back == (failing == 1)
+            && clients.written.as_slice() == written
+            && clients.are_served(served, &sent),
+    )
 }
 
-/// Serves two clients in a room by these words: how that ends, and what was written.
-fn serve_meeting<T: AllocGlobal + Threads + Wait + Sync>(
+#[test]
+fn a_world_that_fails_ends_the_run(rt: HostRuntime) {
+    for &(failing, status, served) in &FAILING {
+        assert!(rt;
+            ends_so(&rt, failing, status, served) == Ok(true),
+            "call {failing}"
+        );
+    }
+}
+
+/// Whether two clients are served in a room by these words.
+fn is_served_in<T: AllocGlobal + Threads + Wait + Sync>(
     rt: &T,
     room: &Room<'_>,
     line: &str,
-) -> Result<(u8, Vec<u8>), AllocError> {
+) -> Result<bool, AllocError> {
     let world = Meeting {
         world: two_clients(rt.alloc(), INDEX, 0)?,
         room,
         given: 0,
     };
     let (outcome, written) = serve(rt, line, world)?;
-    Ok((outcome.status, written))
+    Ok(outcome.status == 0 && written.as_slice() == SUMMARY)
 }
 
 /// One worker alone never gets the first client's request.
 #[test]
-fn two_workers_serve_at_once(rt: HostRuntime) -> Result<(), Fail> {
+fn two_workers_serve_at_once(rt: HostRuntime) {
     let room = Room::new(&rt);
     let line = "serve S --port 1 --connections 2 --workers 2 --cost 0";
-    let (status, written) = serve_meeting(&rt, &room, line)?;
-    assert!(rt; status == 0);
+    assert!(rt; is_served_in(&rt, &room, line) == Ok(true));
     assert!(rt; !room.was_missed());
-    assert!(rt; written.as_slice() == SUMMARY);
-    Ok(())
 }

@@ -6,25 +6,19 @@ ghost use Rattle.mely_worker.specs.Conditions.{MayStepAt, AppServesAt};
 
 mod ledger;
 mod lent;
-mod named;
 mod script;
 
 use ledger::{Forwarding, Ledger, NOTE, Pass};
 use lent::{step_lent, steps_lent};
-use mely_event::{Colour, Event, Fits, Handlers, Trail};
-use mely_history::{After, NoSteal, NoTake, Registered, Setup, Shape};
+use mely_event::{Colour, Event, Fits, Handlers, Mark, Memory, Trail};
+use mely_history::{After, NoSteal, NoTake, Registered, Setup, Shape, Stolen};
 use mely_worker::{Access, App, Delivery, IdleWorker, Made, Outs, Worker};
-use named::{
-    finished, landed, mark, more_waits, picked, popped, pushed, ran, registered, stole,
-    stolen_from, told, took, was_ready, woke,
-};
 use script::{Call, Script};
 use std::alloc::Global;
 use std::process::Abort;
-use std::test::Fail;
 
 /// Two cores, four colours, batch 2 and two handlers, with these calls to come.
-fn script_of(alloc: Global, calls: &[Call]) -> Result<Script, Fail>
+fn script_of(alloc: Global, calls: &[Call]) -> Result<Script, Memory>
     ensures cores { IfOk result (λ script. (shape_of script.setup).cores ≡ 2) }
     ensures colours { IfOk result (λ script. colours_of script.setup ≡ 4) }
     ensures handlers { IfOk result (λ script. length (rows_of (handlers_of script.setup)) ≡ 2) }
@@ -37,10 +31,10 @@ fn script_of(alloc: Global, calls: &[Call]) -> Result<Script, Fail>
         group: 2,
     };
     let Ok(handlers) = Handlers::new(&[(60, 2), (7, 2)]) else {
-        return Err(Fail::from("no table"));
+        return Err(Memory);
     };
     let Ok(setup) = Setup::new(&shape, 4, handlers, 0) else {
-        return Err(Fail::from("no setup"));
+        return Err(Memory);
     };
     Ok(Script {
         alloc,
@@ -71,203 +65,410 @@ fn follows(
     true
 }
 
-/// Runs a worker of core 0 with victim 1 by a script, and answers what it lost
-/// and who passed the gate.
-fn run<R: AllocGlobal + Abort>(
-    rt: &R,
+/// A colour with an event and its load.
+type Put = (Colour, Event, Option<u8>);
+
+/// Whether a worker of core 0 with victim 1 follows a script to its end, loses these, and passes the
+/// gate so.
+fn comes_so(
+    rt: &(impl AllocGlobal + Abort),
     calls: &[Call],
     steps: &[Made],
-) -> Result<(Vec<(Colour, Event, Option<u8>)>, [Option<Pass>; 3]), Fail> {
+    lost: &[Put],
+    passes: &[Option<Pass>],
+) -> Result<bool, Memory> {
     let mut script = script_of(rt.alloc(), calls)?;
-    let mut worker = match Worker::new(rt.alloc(), 0, vec![in rt.alloc(); 1]?, 2) {
-        Ok(worker) => worker,
-        Err(_) => return Err(Fail::from("no worker")),
-    };
+    let victims = [1].to_vec(rt.alloc())?;
+    let mut worker = Worker::new(rt.alloc(), 0, victims, 2)?;
     let app = Forwarding::new();
-    assert!(rt; follows(&mut worker, &mut script, &app, steps));
-    assert!(rt; script.is_done());
+    let is_followed = follows(&mut worker, &mut script, &app, steps) && script.is_done();
     assert!(rt; worker.is_free());
-    Ok((worker.into_lost(), app.seen()))
+    let puts = worker.into_lost();
+    let seen = app.seen();
+    Ok(is_followed && puts.as_slice() == lost && seen.as_slice() == passes)
 }
 
-/// Both events of a turn passed the gate on core 0, each once and before it was run.
-fn both_events(colour: Colour) -> [Option<Pass>; 3] {
-    [
-        Some(Pass {
-            core: 0,
-            colour,
-            event: Event { handler: 1, arg: 5 },
-            ran: 0,
+/// Whether a worker follows a script to its end in which it runs nothing.
+fn is_followed(
+    rt: &(impl AllocGlobal + Abort),
+    calls: &[Call],
+    steps: &[Made],
+) -> Result<bool, Memory> {
+    comes_so(rt, calls, steps, &[], &NO_PASSES)
+}
+
+/// Nobody passed the gate.
+static NO_PASSES: [Option<Pass>; 3] = [None; 3];
+
+const C0: Colour = Colour(0);
+
+const C1: Colour = Colour(1);
+
+const C2: Colour = Colour(2);
+
+const C3: Colour = Colour(3);
+
+/// A mark of colour 2, which is stolen, and what it is afterwards.
+const STOLEN: Mark = Mark {
+    colour: C2,
+    started: 4,
+    worth: 50,
+};
+
+const LANDED: Mark = Mark {
+    colour: C2,
+    started: 5,
+    worth: 60,
+};
+
+/// The mark of what waits of it once its turn is finished.
+const MORE: Mark = Mark {
+    colour: C2,
+    started: 7,
+    worth: 20,
+};
+
+/// What is called in a run in which every line of the table is made, and the names of its steps.
+static EVERY_CALL: [Call; 15] = [
+    Call::Pop(None),
+    Call::Pick(1, Some(STOLEN)),
+    Call::Steal(
+        C2,
+        Ok(Stolen {
+            from: 1,
+            started: 5,
+            worth: 60,
         }),
-        Some(Pass {
-            core: 0,
-            colour,
-            event: Event { handler: 0, arg: 6 },
-            ran: 1,
+    ),
+    Call::Push(0, LANDED),
+    Call::Pop(Some(LANDED)),
+    Call::Take(C2, None),
+    Call::Register(
+        C0,
+        NOTE,
+        Some(7),
+        Some(Registered::Woke {
+            owner: 1,
+            started: 0,
+            worth: 30,
         }),
+    ),
+    Call::Push(
+        1,
+        Mark {
+            colour: C0,
+            started: 0,
+            worth: 30,
+        },
+    ),
+    Call::Register(
+        C1,
+        NOTE,
         None,
-    ]
-}
+        Some(Registered::Told {
+            owner: 1,
+            started: 3,
+            worth: 40,
+        }),
+    ),
+    Call::Retell(1, C1, 3, 40, true),
+    Call::Finish(
+        C2,
+        7,
+        After::More {
+            started: 7,
+            worth: 20,
+        },
+    ),
+    Call::Push(0, MORE),
+    Call::Pop(Some(MORE)),
+    Call::Take(C2, Some(NoTake::Memory)),
+    Call::Push(0, MORE),
+];
+
+static EVERY_STEP: [Made; 18] = [
+    Made::NoneHere,
+    Made::Picked {
+        colour: C2,
+        victim: 1,
+    },
+    Made::Stole {
+        colour: C2,
+        from: 1,
+    },
+    Made::Landed { colour: C2 },
+    Made::Popped { colour: C2 },
+    Made::Took {
+        colour: C2,
+        count: 2,
+    },
+    Made::Ran {
+        colour: C2,
+        handler: 1,
+    },
+    Made::Registered { colour: C0 },
+    Made::Pushed {
+        colour: C0,
+        core: 1,
+    },
+    Made::Registered { colour: C1 },
+    Made::Told {
+        colour: C1,
+        core: 1,
+        found: true,
+    },
+    Made::Ran {
+        colour: C2,
+        handler: 0,
+    },
+    Made::Finished {
+        colour: C2,
+        more: true,
+    },
+    Made::Pushed {
+        colour: C2,
+        core: 0,
+    },
+    Made::Popped { colour: C2 },
+    Made::Memory,
+    Made::Pushed {
+        colour: C2,
+        core: 0,
+    },
+    Made::Halted,
+];
+
+/// Both events of a turn of colour 2 passed the gate on core 0, each once and before it was run.
+static BOTH_OF_2: [Option<Pass>; 3] = [
+    Some(Pass {
+        core: 0,
+        colour: C2,
+        event: Event { handler: 1, arg: 5 },
+        ran: 0,
+    }),
+    Some(Pass {
+        core: 0,
+        colour: C2,
+        event: Event { handler: 0, arg: 6 },
+        ran: 1,
+    }),
+    None,
+];
 
 #[test]
-fn every_line_of_the_table_is_made(rt: HostRuntime) -> Result<(), Fail> {
+fn every_line_of_the_table_is_made(rt: HostRuntime) {
+    let is_so = comes_so(&rt, &EVERY_CALL, &EVERY_STEP, &[], &BOTH_OF_2);
+    assert!(rt; is_so == Ok(true));
+}
+
+/// A mark of colour 1.
+const FOUND: Mark = Mark {
+    colour: C1,
+    started: 0,
+    worth: 30,
+};
+
+/// Why a mark is not taken.
+static NO_TAKES: [NoTake; 3] = [
+    NoTake::Elsewhere { owner: 1 },
+    NoTake::Busy { core: 1 },
+    NoTake::Empty { registered: 3 },
+];
+
+/// Whether a mark that is not taken for this cause is dropped.
+fn is_dropped_untaken(rt: &(impl AllocGlobal + Abort), why: NoTake) -> Result<bool, Memory> {
+    let calls = [
+        Call::Pop(Some(FOUND)),
+        Call::Take(C1, Some(why)),
+        Call::Pop(None),
+    ];
+    let steps = [
+        Made::Popped { colour: C1 },
+        Made::NotTaken { why },
+        Made::NoneHere,
+    ];
+    is_followed(rt, &calls, &steps)
+}
+
+/// Why a mark is not stolen.
+static NO_STEALS: [NoSteal; 5] = [
+    NoSteal::Pinned { colour: C1 },
+    NoSteal::Own,
+    NoSteal::Busy { core: 1 },
+    NoSteal::Empty { registered: 3 },
+    NoSteal::Cheap { worth: 30 },
+];
+
+/// Whether a mark that is not stolen for this cause is dropped.
+fn is_dropped_unstolen(rt: &(impl AllocGlobal + Abort), why: NoSteal) -> Result<bool, Memory> {
     let calls = [
         Call::Pop(None),
-        Call::Pick(1, Some(mark(2, 4, 50))),
-        Call::Steal(Colour(2), Ok(stolen_from(1, 5, 60))),
-        Call::Push(0, mark(2, 5, 60)),
-        Call::Pop(Some(mark(2, 5, 60))),
-        Call::Take(Colour(2), None),
-        Call::Register(Colour(0), NOTE, Some(7), Some(woke(1, 0, 30))),
-        Call::Push(1, mark(0, 0, 30)),
-        Call::Register(Colour(1), NOTE, None, Some(was_ready(1, 3, 40))),
-        Call::Retell(1, Colour(1), 3, 40, true),
-        Call::Finish(Colour(2), 7, more_waits(7, 20)),
-        Call::Push(0, mark(2, 7, 20)),
-        Call::Pop(Some(mark(2, 7, 20))),
-        Call::Take(Colour(2), Some(NoTake::Memory)),
-        Call::Push(0, mark(2, 7, 20)),
+        Call::Pick(1, Some(FOUND)),
+        Call::Steal(C1, Err(why)),
+        Call::Pop(None),
+        Call::Pick(1, None),
+        Call::Pop(None),
     ];
     let steps = [
         Made::NoneHere,
-        picked(Colour(2), 1),
-        stole(Colour(2), 1),
-        landed(Colour(2)),
-        popped(Colour(2)),
-        took(Colour(2), 2),
-        ran(Colour(2), 1),
-        registered(Colour(0)),
-        pushed(Colour(0), 1),
-        registered(Colour(1)),
-        told(Colour(1), 1, true),
-        ran(Colour(2), 0),
-        finished(Colour(2), true),
-        pushed(Colour(2), 0),
-        popped(Colour(2)),
-        Made::Memory,
-        pushed(Colour(2), 0),
-        Made::Halted,
-    ];
-    let (lost, seen) = run(&rt, &calls, &steps)?;
-    assert!(rt; lost.len() == 0);
-    assert!(rt; seen == both_events(Colour(2)));
-    Ok(())
-}
-
-#[test]
-fn a_mark_that_is_refused_is_dropped(rt: HostRuntime) -> Result<(), Fail> {
-    let found = mark(1, 0, 30);
-    for why in [
-        NoTake::Elsewhere { owner: 1 },
-        NoTake::Busy { core: 1 },
-        NoTake::Empty { registered: 3 },
-    ] {
-        let calls = [
-            Call::Pop(Some(found)),
-            Call::Take(Colour(1), Some(why)),
-            Call::Pop(None),
-        ];
-        let steps = [popped(Colour(1)), Made::NotTaken { why }, Made::NoneHere];
-        run(&rt, &calls, &steps)?;
-    }
-    for why in [
-        NoSteal::Pinned { colour: Colour(1) },
-        NoSteal::Own,
-        NoSteal::Busy { core: 1 },
-        NoSteal::Empty { registered: 3 },
-        NoSteal::Cheap { worth: 30 },
-    ] {
-        let calls = [
-            Call::Pop(None),
-            Call::Pick(1, Some(found)),
-            Call::Steal(Colour(1), Err(why)),
-            Call::Pop(None),
-            Call::Pick(1, None),
-            Call::Pop(None),
-        ];
-        let steps = [
-            Made::NoneHere,
-            picked(Colour(1), 1),
-            Made::NotStolen { why },
-            Made::NoneHere,
-            Made::NoneThere { victim: 1 },
-            Made::NoneHere,
-        ];
-        run(&rt, &calls, &steps)?;
-    }
-    Ok(())
-}
-
-#[test]
-fn without_memory_a_steal_puts_the_mark_back(rt: HostRuntime) -> Result<(), Fail> {
-    let calls = [
-        Call::Pop(None),
-        Call::Pick(1, Some(mark(3, 2, 90))),
-        Call::Steal(Colour(3), Err(NoSteal::Memory)),
-        Call::Push(1, mark(3, 2, 90)),
-    ];
-    let steps = [
+        Made::Picked {
+            colour: C1,
+            victim: 1,
+        },
+        Made::NotStolen { why },
         Made::NoneHere,
-        picked(Colour(3), 1),
-        Made::Memory,
-        pushed(Colour(3), 1),
-        Made::Halted,
-        Made::Halted,
+        Made::NoneThere { victim: 1 },
+        Made::NoneHere,
     ];
-    run(&rt, &calls, &steps)?;
-    Ok(())
+    is_followed(rt, &calls, &steps)
 }
 
 #[test]
-fn without_memory_a_registration_is_kept_and_the_turn_ended(rt: HostRuntime) -> Result<(), Fail> {
-    let calls = [
-        Call::Pop(Some(mark(3, 0, 60))),
-        Call::Take(Colour(3), None),
-        Call::Register(Colour(0), NOTE, Some(7), None),
-        Call::Register(Colour(1), NOTE, None, Some(Registered::Running { core: 1 })),
-        Call::Finish(Colour(3), 7, After::Idle),
-    ];
-    let steps = [
-        popped(Colour(3)),
-        took(Colour(3), 2),
-        ran(Colour(3), 1),
-        Made::Memory,
-        registered(Colour(1)),
-        ran(Colour(3), 0),
-        finished(Colour(3), false),
-        Made::Halted,
-    ];
-    let (lost, seen) = run(&rt, &calls, &steps)?;
-    assert!(rt; lost.as_slice() == [(Colour(0), NOTE, Some(7))].as_slice());
-    assert!(rt; seen == both_events(Colour(3)));
-    Ok(())
+fn a_mark_that_is_refused_is_dropped(rt: HostRuntime) {
+    for &why in &NO_TAKES {
+        assert!(rt; is_dropped_untaken(&rt, why) == Ok(true), "{why}");
+    }
+    for &why in &NO_STEALS {
+        assert!(rt; is_dropped_unstolen(&rt, why) == Ok(true), "{why}");
+    }
 }
 
+/// A mark of colour 3 that a steal without memory puts back.
+const PUT_BACK: Mark = Mark {
+    colour: C3,
+    started: 2,
+    worth: 90,
+};
+
+static STEAL_CALLS: [Call; 4] = [
+    Call::Pop(None),
+    Call::Pick(1, Some(PUT_BACK)),
+    Call::Steal(C3, Err(NoSteal::Memory)),
+    Call::Push(1, PUT_BACK),
+];
+
+static STEAL_STEPS: [Made; 6] = [
+    Made::NoneHere,
+    Made::Picked {
+        colour: C3,
+        victim: 1,
+    },
+    Made::Memory,
+    Made::Pushed {
+        colour: C3,
+        core: 1,
+    },
+    Made::Halted,
+    Made::Halted,
+];
+
 #[test]
-fn what_follows_a_registration_is_delivered(rt: HostRuntime) -> Result<(), Fail> {
-    let mut script = script_of(
-        rt.alloc(),
-        &[
-            Call::Push(1, mark(3, 4, 50)),
-            Call::Retell(1, Colour(3), 4, 60, false),
-        ],
-    )?;
-    let woke = Registered::Woke {
-        owner: 1,
-        started: 4,
-        worth: 50,
-    };
-    let told = Registered::Told {
-        owner: 1,
-        started: 4,
+fn without_memory_a_steal_puts_the_mark_back(rt: HostRuntime) {
+    assert!(rt; is_followed(&rt, &STEAL_CALLS, &STEAL_STEPS) == Ok(true));
+}
+
+/// A registration without memory in a turn of colour 3.
+static TURN_CALLS: [Call; 5] = [
+    Call::Pop(Some(Mark {
+        colour: C3,
+        started: 0,
         worth: 60,
-    };
-    let runs = Registered::Running { core: 0 };
-    assert!(rt; Delivery::after(Colour(3), &woke).deliver(&mut script));
-    assert!(rt; !Delivery::after(Colour(3), &told).deliver(&mut script));
-    assert!(rt; Delivery::after(Colour(3), &runs).deliver(&mut script));
-    assert!(rt; script.is_done());
-    Ok(())
+    })),
+    Call::Take(C3, None),
+    Call::Register(C0, NOTE, Some(7), None),
+    Call::Register(C1, NOTE, None, Some(Registered::Running { core: 1 })),
+    Call::Finish(C3, 7, After::Idle),
+];
+
+static TURN_STEPS: [Made; 8] = [
+    Made::Popped { colour: C3 },
+    Made::Took {
+        colour: C3,
+        count: 2,
+    },
+    Made::Ran {
+        colour: C3,
+        handler: 1,
+    },
+    Made::Memory,
+    Made::Registered { colour: C1 },
+    Made::Ran {
+        colour: C3,
+        handler: 0,
+    },
+    Made::Finished {
+        colour: C3,
+        more: false,
+    },
+    Made::Halted,
+];
+
+/// What was not registered.
+static TURN_LOST: [Put; 1] = [(C0, NOTE, Some(7))];
+
+/// Both events of a turn of colour 3 passed the gate on core 0, each once and before it was run.
+static BOTH_OF_3: [Option<Pass>; 3] = [
+    Some(Pass {
+        core: 0,
+        colour: C3,
+        event: Event { handler: 1, arg: 5 },
+        ran: 0,
+    }),
+    Some(Pass {
+        core: 0,
+        colour: C3,
+        event: Event { handler: 0, arg: 6 },
+        ran: 1,
+    }),
+    None,
+];
+
+#[test]
+fn without_memory_a_registration_is_kept_and_the_turn_ended(rt: HostRuntime) {
+    let is_so = comes_so(&rt, &TURN_CALLS, &TURN_STEPS, &TURN_LOST, &BOTH_OF_3);
+    assert!(rt; is_so == Ok(true));
+}
+
+/// What is called where registrations on colour 3 are delivered.
+static DELIVERED: [Call; 2] = [
+    Call::Push(
+        1,
+        Mark {
+            colour: C3,
+            started: 4,
+            worth: 50,
+        },
+    ),
+    Call::Retell(1, C3, 4, 60, false),
+];
+
+/// What registrations on colour 3 answer: the colour woke, was told of, or runs.
+const WOKE: Registered = Registered::Woke {
+    owner: 1,
+    started: 4,
+    worth: 50,
+};
+
+const TOLD: Registered = Registered::Told {
+    owner: 1,
+    started: 4,
+    worth: 60,
+};
+
+const RUNS: Registered = Registered::Running { core: 0 };
+
+/// Whether the first and the last of these are delivered, and the other isn't, by these calls alone.
+fn are_delivered(alloc: Global) -> Result<bool, Memory> {
+    let mut script = script_of(alloc, &DELIVERED)?;
+    let woke = Delivery::after(C3, &WOKE).deliver(&mut script);
+    let told = Delivery::after(C3, &TOLD).deliver(&mut script);
+    let runs = Delivery::after(C3, &RUNS).deliver(&mut script);
+    Ok(woke && !told && runs && script.is_done())
+}
+
+#[test]
+fn what_follows_a_registration_is_delivered(rt: HostRuntime) {
+    assert!(rt; are_delivered(rt.alloc()) == Ok(true));
 }
 
 /// A worker may be lent to a thread wherever its states and loads may cross,
@@ -279,40 +480,37 @@ fn crosses<S: Send, P: Send>(worker: &Worker<S, P>, rested: &IdleWorker<P>) {
 
 fn may_cross<T: Send>(_value: &T) {}
 
-#[test]
-fn a_worker_rests_and_wakes(rt: HostRuntime) -> Result<(), Fail> {
-    let worker: Worker<Ledger, u8> = match Worker::new(
-        rt.alloc(),
-        3,
-        vec![in rt.alloc(); 2, 0]?,
-        1000,
-    ) {
-        Ok(worker) => worker,
-        Err(_) => return Err(Fail::from("no worker")),
-    };
+/// Whether a worker rests and wakes without anything in it.
+fn is_at_rest(rt: &(impl AllocGlobal + Abort)) -> Result<bool, Memory> {
+    let victims = [2, 0].to_vec(rt.alloc())?;
+    let worker: Worker<Ledger, u8> = Worker::new(rt.alloc(), 3, victims, 1000)?;
+    let is_new = !worker.is_halted() && worker.lost().is_empty();
     assert!(rt; worker.is_free());
-    assert!(rt; !worker.is_halted());
-    assert!(rt; worker.lost().len() == 0);
-    let rested = worker.rest();
-    let worker: Worker<Ledger, u8> = rested.wake();
+    let worker: Worker<Ledger, u8> = worker.rest().wake();
     assert!(rt; worker.is_free());
-    assert!(rt; worker.into_lost().len() == 0);
-    assert!(rt; Outs::<u8>::new().is_empty());
-    Ok(())
+    let lost = worker.into_lost();
+    Ok(is_new && lost.is_empty())
 }
 
 #[test]
-fn a_step_on_a_lent_access_is_a_step_on_the_access(rt: HostRuntime) -> Result<(), Fail> {
+fn a_worker_rests_and_wakes(rt: HostRuntime) {
+    assert!(rt; is_at_rest(&rt) == Ok(true));
+    assert!(rt; Outs::<u8>::new().is_empty());
+}
+
+/// Whether steps on an access that is lent are steps on the access.
+fn is_lent(rt: &(impl AllocGlobal + Abort)) -> Result<bool, Memory> {
     let mut script = script_of(rt.alloc(), &[Call::Pop(None); 3])?;
-    let mut worker: Worker<Ledger, u8> = match Worker::new(rt.alloc(), 0, Vec::new(rt.alloc()), 2) {
-        Ok(worker) => worker,
-        Err(_) => return Err(Fail::from("no worker")),
-    };
+    let mut worker: Worker<Ledger, u8> = Worker::new(rt.alloc(), 0, Vec::new(rt.alloc()), 2)?;
     let app = Forwarding::new();
-    assert!(rt; step_lent(&mut worker, &mut script, &app) == Made::NoneHere);
+    let made = step_lent(&mut worker, &mut script, &app);
     steps_lent(&mut worker, &mut script, &app, 2);
-    assert!(rt; script.is_done());
     assert!(rt; worker.is_free());
-    assert!(rt; worker.into_lost().len() == 0);
-    Ok(())
+    let is_empty = worker.into_lost().is_empty();
+    Ok(made == Made::NoneHere && script.is_done() && is_empty)
+}
+
+#[test]
+fn a_step_on_a_lent_access_is_a_step_on_the_access(rt: HostRuntime) {
+    assert!(rt; is_lent(&rt) == Ok(true));
 }

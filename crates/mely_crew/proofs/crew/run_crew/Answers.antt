@@ -4,6 +4,11 @@ use Rattle.mely_history.specs.declared.setup.Setup.{Setup}
 use Rattle.mely_history.specs.Setup.{shape_of, colours_of}
 use Rattle.mely_worker.specs.Access.{FitsSetup}
 use Rattle.mely_worker.specs.Conditions.{AppServes}
+use Rattle.mely_worker.specs.Gated.{behind}
+use Rattle.mely_worker.specs.Worker.{WorkerState}
+use Rattle.mely_worker.proofs.GateLemmas.{NextTells}
+use Rattle.mely_fleet.proofs.GateLemmas.{made_tells}
+use Rattle.mely_crew.specs.Crew.{SomeHasPassed}
 use Rattle.mely_fleet.specs.Fleets.{frame_in}
 use Rattle.mely_note.specs.declared.note.Note.TheVariants.{Reg}
 use Rattle.mely_note.specs.Notes.{entries_of}
@@ -164,10 +169,11 @@ entered g c =
       others = sees.others;
     })
 
--- each seat that is closed has run, and its worker was fresh before
-seat_ran : (g : _) (c : After-close_home-weave g) → take c.in-Ok.crew.seats.len (c.work_all.new.seats ++ drop (length c.work_all.new.seats) c.in-Ok.crew.seats.items) ≡ c.work_all.new.seats → (i : _) (seat : _) → slice_get (take c.in-Ok.crew.seats.len (c.work_all.new.seats ++ drop (length c.work_all.new.seats) c.in-Ok.crew.seats.items)) i ≡ Some seat
-    → HasRun g.S.Trail g.S.Fits.fits_under g.A.App c.args.app.now c.in-Ok.crew.fleet (λ seat. seat.passes) (λ seat. seat.worker) i seat
-seat_ran g c back i seat at =
+-- each seat that is closed has run, and its worker was fresh before, by words that say no more than
+-- those of the app behind the gate
+seat_ran_by : (g : _) (c : After-close_home-weave g) (y : _) → ((n : _) (w : WorkerState _ _) → NextTells (behind g.S.Trail (g.G.Gate.passes c.args.gate.now n) g.A.App) y c.args.app.now w) → take c.in-Ok.crew.seats.len (c.work_all.new.seats ++ drop (length c.work_all.new.seats) c.in-Ok.crew.seats.items) ≡ c.work_all.new.seats → (i : _) (seat : _) → slice_get (take c.in-Ok.crew.seats.len (c.work_all.new.seats ++ drop (length c.work_all.new.seats) c.in-Ok.crew.seats.items)) i ≡ Some seat
+    → HasRun g.S.Trail g.S.Fits.fits_under y c.args.app.now c.in-Ok.crew.fleet (λ seat. seat.passes) (λ seat. seat.worker) i seat
+seat_ran_by g c y tells back i seat at =
     let there = ap (λ l. slice_get l i) (sym back) ∙ at in
     let made = c.work_all.ensures.made i seat there in
     let was = ap (λ l. slice_get l i) (sym c.deref_mut.ensures.value) ∙ made.1 in
@@ -177,8 +183,13 @@ seat_ran g c back i seat at =
       numbered = (c.in-Ok.ensures.seats i made.0 was).numbered;
       number = (c.work_all.ensures.seats i seat there).numbered;
       fresh = c.in-Ok.ensures.fresh i made.0 was;
-      made = made.2;
+      made = made_tells g.S.Trail g.S.Fits.fits_under (behind g.S.Trail (g.G.Gate.passes c.args.gate.now i) g.A.App) y c.args.app.now (tells i) c.in-Ok.crew.fleet made.0.passes seat.passes made.0.worker seat.worker made.2;
     }
+
+-- so it has by those of the app alone
+seat_ran : (g : _) (c : After-close_home-weave g) → take c.in-Ok.crew.seats.len (c.work_all.new.seats ++ drop (length c.work_all.new.seats) c.in-Ok.crew.seats.items) ≡ c.work_all.new.seats → (i : _) (seat : _) → slice_get (take c.in-Ok.crew.seats.len (c.work_all.new.seats ++ drop (length c.work_all.new.seats) c.in-Ok.crew.seats.items)) i ≡ Some seat
+    → HasRun g.S.Trail g.S.Fits.fits_under g.A.App c.args.app.now c.in-Ok.crew.fleet (λ seat. seat.passes) (λ seat. seat.worker) i seat
+seat_ran g c = seat_ran_by g c g.A.App (λ n w turn event rest state puts is left ran. ran.0)
 
 -- what runs before the closing put and ran is accounted for by the weave that it gives
 closed_accounted : (g : _) (c : After-close_home-weave g) → take c.in-Ok.crew.seats.len (c.work_all.new.seats ++ drop (length c.work_all.new.seats) c.in-Ok.crew.seats.items) ≡ c.work_all.new.seats → length (take c.in-Ok.crew.seats.len (c.work_all.new.seats ++ drop (length c.work_all.new.seats) c.in-Ok.crew.seats.items)) ≡ (shape_of c.args.setup.now).cores
@@ -222,10 +233,10 @@ returns-clause-accounted g c =
     (some_account g.S.Trail g.S.Fits.fits_under g.A.App c.args.app.now (c.args.begin ∷ []) weave c.settle.new.weave settled well
     (closed_accounted g at.After-close_home-weave (seats_are g at.After-push_reserved) (seat_count g at.After-push_reserved)))
 
--- what runs before the closing ran is told by the notes of the weave that it gives
-closed_is_told : (g : _) (c : After-close_home-weave g) → take c.in-Ok.crew.seats.len (c.work_all.new.seats ++ drop (length c.work_all.new.seats) c.in-Ok.crew.seats.items) ≡ c.work_all.new.seats → length (take c.in-Ok.crew.seats.len (c.work_all.new.seats ++ drop (length c.work_all.new.seats) c.in-Ok.crew.seats.items)) ≡ (shape_of c.args.setup.now).cores
-    → IsTold g.S.Trail g.S.Fits.fits_under g.A.App c.args.app.now (λ k. slice_get c.args.states.items k.0) (c.args.begin ∷ []) c.close_home-weave.result
-closed_is_told g c back many =
+-- what runs before the closing ran is told by the notes of the weave that it gives, by such words
+closed_is_told_by : (g : _) (c : After-close_home-weave g) (y : _) → ((n : _) (w : WorkerState _ _) → NextTells (behind g.S.Trail (g.G.Gate.passes c.args.gate.now n) g.A.App) y c.args.app.now w) → take c.in-Ok.crew.seats.len (c.work_all.new.seats ++ drop (length c.work_all.new.seats) c.in-Ok.crew.seats.items) ≡ c.work_all.new.seats → length (take c.in-Ok.crew.seats.len (c.work_all.new.seats ++ drop (length c.work_all.new.seats) c.in-Ok.crew.seats.items)) ≡ (shape_of c.args.setup.now).cores
+    → IsTold g.S.Trail g.S.Fits.fits_under y c.args.app.now (λ k. slice_get c.args.states.items k.0) (c.args.begin ∷ []) c.close_home-weave.result
+closed_is_told_by g c y tells back many =
     let fleet = c.in-Ok.crew.fleet in
     let weave = c.close_home-weave.result in
     let home = c.close_home-weave.ensures.home in
@@ -233,7 +244,7 @@ closed_is_told g c back many =
     let one = c.push_reserved.ensures.items ∙ ap (λ l. l ++ c.post.new.passes ∷ []) c.in-Ok.ensures.outsiders.0 in
     let seats = take c.in-Ok.crew.seats.len (c.work_all.new.seats ++ drop (length c.work_all.new.seats) c.in-Ok.crew.seats.items) in
     let cores = ap (λ (k : Setup). (shape_of k).cores) (sym (closed.setup ∙ c.in-Ok.ensures.of_setup)) in
-    closed_told g.S.Trail g.S.Fits.fits_under g.A.App c.args.app.now fleet (λ seat. seat.passes) (λ seat. seat.worker) c.args.begin.0 c.args.begin.1 c.args.begin.2 (λ k. slice_get c.args.states.items k.0) seats weave (record {
+    closed_told g.S.Trail g.S.Fits.fits_under y c.args.app.now fleet (λ seat. seat.passes) (λ seat. seat.worker) c.args.begin.0 c.args.begin.1 c.args.begin.2 (λ k. slice_get c.args.states.items k.0) seats weave (record {
       outside = c.post.new.passes;
       callers = _;
       unseen = fronts c.in-Ok.crew.outside.shards.items;
@@ -244,7 +255,7 @@ closed_is_told g c back many =
       are = ap (λ l. l ++ map (λ seat. seat.passes) seats) one;
       many = many ∙ cores;
       workers = home.workers;
-      seats = seat_ran g c back;
+      seats = seat_ran_by g c y tells back;
       number = c.in_default-post.ensures.same ∙ c.in-Ok.ensures.numbered ∙ cores;
       nothing = c.in-Ok.ensures.unseen;
       posted = entered g c;
@@ -259,4 +270,15 @@ returns-clause-told g c =
     told_drain_of g.S.Trail g.S.Fits.fits_under g.A.App c.args.app.now (λ k. slice_get c.args.states.items k.0) (c.args.begin ∷ []) c.settle.new.weave c.drain-drained.new.self c.drain-drained.result
     (some_stand g.S.Trail g.S.Fits.fits_under g.A.App c.args.app.now weave c.settle.new.weave settled well) c.drain-drained.ensures.drains
     (some_told g.S.Trail g.S.Fits.fits_under g.A.App c.args.app.now (λ k. slice_get c.args.states.items k.0) (c.args.begin ∷ []) weave c.settle.new.weave settled well
-    (closed_is_told g at.After-close_home-weave (seats_are g at.After-push_reserved) (seat_count g at.After-push_reserved)))
+    (closed_is_told_by g at.After-close_home-weave g.A.App (λ n w turn event rest state puts is left ran. ran.0) (seats_are g at.After-push_reserved) (seat_count g at.After-push_reserved)))
+
+pub returns-clause-gated : goal.returns-clause-gated
+returns-clause-gated g c =
+    let at = goal.at.returns-clause-gated g c in
+    record {
+      closed = c.close_home-weave.result;
+      told = closed_is_told_by g at.After-close_home-weave (behind g.S.Trail (SomeHasPassed (g.G.Gate.passes c.args.gate.now)) g.A.App) (λ n w turn event rest state puts is left ran. (ran.0, (n, ran.1))) (seats_are g at.After-push_reserved) (seat_count g at.After-push_reserved);
+      settled = c.settle.new.weave;
+      settles = c.settle.ensures;
+      drains = c.drain-drained.ensures.drains;
+    }

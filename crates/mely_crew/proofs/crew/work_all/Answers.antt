@@ -6,6 +6,7 @@ use Rattle.std.proofs.lemmas.Option.{slice_get-get_or, slice_get_within, get_or_
 use Rattle.mely_fleet.proofs.fleet.FleetOf.TheSendSync as fleet
 use Rattle.mely_fleet.proofs.seat.SeatOf.TheSendSync as seat
 use Rattle.mely_weave.proofs.Wholes.GatherLemmas.{get_there}
+use Rattle.mely_worker.specs.Gated.{behind}
 use Rattle.mely_fleet.specs.Seats.{IsSeatOf, HasMade}
 use Rattle.mely_fleet.proofs.CrossingLemmas.{kept_crosses}
 use Rattle.mely_crew.proofs.crew.work_all.Goals as goal
@@ -47,6 +48,6 @@ returns-clause-made g c place seat there =
     let was = get_or_from_slice_get c.args.seats.now place old.0 seat old.1 in (
       old.0,
       old.1,
-      subst (λ s. HasMade g.S.Trail g.S.Fits.fits_under g.A.App c.args.app.now c.args.fleet.now old.0.passes old.0.worker s.passes s.worker) (change.left ∙ is)
-          (subst (λ s. HasMade g.S.Trail g.S.Fits.fits_under g.A.App c.args.app.now c.args.fleet.now s.passes s.worker change.after_call.now.passes change.after_call.now.worker) (change.argument_is ∙ was) change.call.1),
+      subst (λ s. HasMade g.S.Trail g.S.Fits.fits_under (behind g.S.Trail (g.G.Gate.passes c.args.gate.now place) g.A.App) c.args.app.now c.args.fleet.now old.0.passes old.0.worker s.passes s.worker) (change.left ∙ is)
+          (subst (λ s. HasMade g.S.Trail g.S.Fits.fits_under (behind g.S.Trail (g.G.Gate.passes c.args.gate.now place) g.A.App) c.args.app.now c.args.fleet.now s.passes s.worker change.after_call.now.passes change.after_call.now.worker) (change.argument_is ∙ was) change.call.1),
     )

@@ -1,6 +1,6 @@
 use Rattle.std.proofs.Common.{◌≡◌, ◌<◌, ℕ, Some}
 use Rattle.std.specs.Prelude.{slice_get}
-use Rattle.sws_engine.specs.Invariant.{IsConsistent}
+use Rattle.sws_handlers.specs.Invariant.{IsConsistent}
 use Rattle.sws_engine.proofs.threads.are_kept.Given as goal
 
 abbrev pub invariant-loop-place : goal.invariant-loop-place

@@ -6,7 +6,8 @@ use Rattle.mely_weave.specs.declared.draining.Drained.{Drained}
 use Rattle.mely_weave.specs.declared.draining.Drained.TheVariants as drained
 use Rattle.mely_weave.specs.Drains.{AllFree, HistoriesAreDrained}
 use Rattle.mely_weave.specs.Weave.{WeaveState}
-use Rattle.sws_engine.specs.Begins.{IsAtRest}
+use Rattle.sws_weave.specs.Begins.{IsAtRest}
+use Rattle.mely_crew.specs.Crew.{RanBehind}
 use Rattle.sws_engine.proofs.threads.run_lent.Goals as goal
 
 pub run_crew-requires-clause-fits : goal.run_crew-requires-clause-fits
@@ -25,3 +26,7 @@ returns-clause-told g c =
 
 pub returns-clause-rests : goal.returns-clause-rests
 returns-clause-rests g c = let ran = c.run_crew.ensures in rests_of c.args.setup.now c.run_crew.result ran.of_setup ran.free ran.drained
+
+pub returns-clause-gated : goal.returns-clause-gated
+returns-clause-gated g c =
+    subst (λ v. IfOk c.run_crew.result (λ ran. RanBehind g.S.Trail g.S.Fits.fits_under g.A.App c.args.app.now (g.G.Gate.passes c.args.gate.now) (λ k. slice_get v.items k.0) (c.args.begin ∷ []) ran.1 ran.0)) c.replace-given.ensures.value c.run_crew.ensures.gated

@@ -1,17 +1,17 @@
 use denote.Param.Send.{sendable}
 use Rattle.std.proofs.Crossing.{crosses}
-use Rattle.sws_engine.specs.Counting.{bit}
+use Rattle.sws_handlers.specs.Counting.{bit}
 use Rattle.std.proofs.Common.{◌∙◌, sym, ap, refl, subst, arith}
 use Rattle.mely_event.specs.declared.event.Event.{Event}
 use Rattle.mely_crew.specs.Crew.{IsRegistered}
 use Rattle.mely_weave.proofs.Wholes.GatherLemmas.{get_there}
-use Rattle.sws_engine.specs.declared.place.Frame.{Frame}
-use Rattle.sws_engine.proofs.Crews.CrewPartsLemmas.{told_by}
+use Rattle.sws_handlers.specs.declared.place.Frame.{Frame}
+use Rattle.sws_engine.proofs.Crews.CrewPartsLemmas.{behind_by, told_by}
 use Rattle.sws_engine.proofs.Ends.HandledLemmas.{accounted_by}
-use Rattle.sws_engine.proofs.Runs.BeginLemmas.{are_first, first_fits_in}
+use Rattle.sws_weave.proofs.Runs.BeginLemmas.{are_first, first_fits_in}
 use Rattle.mely_log.proofs.log.Log.TheSendSync as log
-use Rattle.sws_engine.proofs.logging.KeptLines.TheSendSync as lines
-use Rattle.sws_engine.proofs.place.Role.TheSendSync as role
+use Rattle.sws_handlers.proofs.logging.KeptLines.TheSendSync as lines
+use Rattle.sws_handlers.proofs.place.Role.TheSendSync as role
 use Rattle.sws_engine.proofs.threads.run_places.Goals as goal
 
 pub run_lent-requires-send-S : goal.run_lent-requires-send-S
@@ -65,3 +65,6 @@ returns-in-Ok-clause-accounted g c = accounted_by _ _ _ _ _ _ _ _ _ _ c.new-app.
 
 pub returns-in-Ok-clause-told : goal.returns-in-Ok-clause-told
 returns-in-Ok-clause-told g c = told_by _ _ _ _ _ _ _ _ _ _ _ c.new-app.result _ _ c.in-Ok.ensures.told c.first_event.ensures c.new-app.ensures.total c.new-app.ensures.log
+
+pub returns-in-Ok-clause-gated : goal.returns-in-Ok-clause-gated
+returns-in-Ok-clause-gated g c = behind_by _ _ _ _ _ _ _ _ _ _ _ c.in-Ok.ran.1 _ c.new-app.result _ _ c.in-Ok.ensures.gated c.first_event.ensures c.new-app.ensures.total c.new-app.ensures.log

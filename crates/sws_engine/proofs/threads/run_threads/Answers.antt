@@ -3,11 +3,11 @@ use Rattle.std.specs.List.{AllByRecursion}
 use Rattle.mely_history.specs.Setup.{is_listed}
 use Rattle.mely_history.specs.declared.setup.Setup.{Setup}
 use Rattle.mely_weave.specs.Dealing.{AtEach}
-use Rattle.sws_engine.specs.Invariant.{IsConsistent}
-use Rattle.sws_engine.proofs.Crews.CrewPartsLemmas.{parts_end}
+use Rattle.sws_handlers.specs.Invariant.{IsConsistent}
+use Rattle.sws_engine.proofs.Crews.CrewPartsLemmas.{parts_end, threads_passed}
 use Rattle.sws_engine.proofs.Ends.HandledLemmas.{handlers_ran}
 use Rattle.sws_engine.proofs.Ends.ThreadLemmas.{parts_kept}
-use Rattle.sws_engine.proofs.Ends.PartedLemmas.{as_many_histories, run_fits}
+use Rattle.sws_weave.proofs.Ends.PartedLemmas.{as_many_histories, run_fits}
 use Rattle.sws_engine.proofs.threads.run_threads.Goals as goal
 
 pub returns-clause-kept : goal.returns-clause-kept
@@ -47,3 +47,6 @@ returns-clause-ends g c =
 pub returns-clause-listed : goal.returns-clause-listed
 returns-clause-listed g c =
     subst (λ (setup : Setup). AllByRecursion (λ history. history.listed ≡ is_listed setup) c.into_parts-parts.result.histories.items) c.in_ok-weave.ensures.rests.of_setup c.into_parts-parts.ensures.listed
+
+pub returns-clause-gated : goal.returns-clause-gated
+returns-clause-gated g c = threads_passed _ _ _ _ _ _ _ _ _ _ _ _ _ _ c.in_ok-weave.drained c.in_ok-weave.weave c.total-total.ensures c.in-Ok.ensures c.in_ok-weave.ensures.gated c.into_parts-parts.ensures.histories

@@ -1,6 +1,6 @@
 use Rattle.std.proofs.Common.{map, refl}
 use Rattle.sws_conn.specs.Logs.{steps_of}
-use Rattle.sws_engine.proofs.Model.ScriptsLemmas.{scripts_tell}
+use Rattle.sws_weave.proofs.Model.ScriptsLemmas.{scripts_tell}
 use Rattle.sws_engine.proofs.threads.serve_all.Goals as goal
 
 pub returns-clause-scheduled : goal.returns-clause-scheduled

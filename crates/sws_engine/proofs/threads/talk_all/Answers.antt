@@ -1,10 +1,11 @@
-use Rattle.std.proofs.Common.{◌≡◌, Bool, sym, subst, inr, arith}
+use Rattle.std.proofs.Common.{◌≡◌, Bool, map, sym, ap, subst, inl, inr, arith}
 use Rattle.std.specs.List.{AllByRecursion}
-use Rattle.sws_engine.specs.Conclusion.{IsConcluded}
-use Rattle.sws_engine.proofs.Ends.HasRunLemmas.{has_run}
+use Rattle.sws_handlers.specs.Conclusion.{IsConcluded}
+use Rattle.sws_weave.proofs.Ends.HasRunLemmas.{has_run}
 use Rattle.sws_engine.proofs.Ends.ThreadLemmas.{has_run_crew}
-use Rattle.sws_engine.proofs.Ends.ConcludedLemmas.{rules_are}
-use Rattle.sws_engine.proofs.Ends.SeatsOfRunLemmas.{seats_stand, below_bit}
+use Rattle.sws_weave.proofs.Ends.ConcludedLemmas.{rules_are}
+use Rattle.sws_weave.proofs.Ends.SeatsOfRunLemmas.{seats_stand, below_bit}
+use Rattle.sws_engine.proofs.Crews.CrewPartsLemmas.{passed_as}
 use Rattle.sws_engine.proofs.threads.talk_all.Goals as goal
 
 pub conclude-requires-clause-states : goal.conclude-requires-clause-states
@@ -45,3 +46,15 @@ pub returns-in-Ok-run_threads-clause-listed : goal.returns-in-Ok-run_threads-cla
 returns-in-Ok-run_threads-clause-listed g c =
     subst (λ histories. AllByRecursion (λ history. history.listed ≡ c.args.listed) histories.items) (sym c.conclude.ensures.concluded.histories)
     (subst (λ (listed : Bool). AllByRecursion (λ history. history.listed ≡ listed) c.in-Ok-run_threads.parts.histories.items) c.setup_of-setup.ensures.listed c.in-Ok-run_threads.ensures.listed)
+
+pub returns-then-shape-eq1-clause-gated : goal.returns-then-shape-eq1-clause-gated
+returns-then-shape-eq1-clause-gated g c = record {
+  alone = λ one. c.talk_gated.ensures.passed;
+  several = λ several. absurd (several c.if-shape-eq1.true);
+}
+
+pub returns-in-Ok-run_threads-clause-gated : goal.returns-in-Ok-run_threads-clause-gated
+returns-in-Ok-run_threads-clause-gated g c = record {
+  alone = λ one. absurd (c.if-shape-eq1.false one);
+  several = λ several. inr (passed_as _ _ _ _ _ _ _ _ _ _ _ _ _ c.in-Ok-run_threads.ensures.gated (ap (λ histories. map (λ history. history.items) histories.items) c.conclude.ensures.concluded.histories));
+}

@@ -1,6 +1,6 @@
 use Rattle.std.proofs.Common.{◌<◌, ◌^◌, ℕ, List, map, sym, subst}
 use Rattle.std.specs.Prelude.{sum_by}
-use Rattle.sws_engine.specs.ServerRun.{IsServerRun}
+use Rattle.sws_weave.specs.ServerRun.{IsServerRun}
 use Rattle.sws_script.specs.Scripted.{script_of}
 use Rattle.sws_replay.specs.Expected.{by_http}
 use Rattle.sws_replay.specs.Runs.{histories_of}

@@ -1,5 +1,5 @@
 use Rattle.std.proofs.Common.{List, Option, inr, sym, subst}
-use Rattle.sws_engine.specs.declared.ended.Served.{Served}
+use Rattle.sws_handlers.specs.declared.ended.Served.{Served}
 use Rattle.sws_log.specs.declared.line.LogLine.{LogLine}
 use Rattle.sws_top.specs.declared.faults.TopFault.{TopFault}
 use Rattle.sws_top.specs.RanServe.{CanSumUp, EndsBy}

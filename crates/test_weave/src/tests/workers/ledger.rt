@@ -21,7 +21,7 @@ pub(super) type Ledger = Logged<Sums>;
 pub(super) const NOTE: Event = Event { handler: 0, arg: 9 };
 
 /// Who passed the gate before a handler, and how many events its state had run by then.
-#[derive(Clone, Copy, Debug, PartialEq, Eq)]
+#[derive(Clone, Copy, PartialEq, Eq)]
 pub(super) struct Pass {
     pub(super) core: u16,
     pub(super) colour: Colour,
@@ -88,6 +88,8 @@ impl App for Forwarding {
 }
 
 impl Gate for Forwarding {
+    ghost passes = { λ gate core colour event. Unit {0} };
+
     fn pass(&self, core: u16, colour: Colour, event: Event) {
         let mut seen = self.seen.get();
         let place = self.passes.get();

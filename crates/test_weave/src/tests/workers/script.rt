@@ -10,7 +10,7 @@ use mely_worker::Access;
 use std::alloc::Global;
 
 /// A call that a worker is to make, and the answer that it is given.
-#[derive(Clone, Copy, Debug, PartialEq, Eq)]
+#[derive(Clone, Copy, PartialEq, Eq)]
 pub(super) enum Call {
     /// Without an answer there is no memory.
     Register(Colour, Event, Option<u8>, Option<Registered>),

@@ -4,7 +4,7 @@ use Rattle.mely_net.specs.declared.asked.Asked.TheVariants.{Here, Last}
 use Rattle.mely_net.specs.declared.cut.Cut.TheVariants as cut
 use Rattle.mely_net.specs.Clients.{shown_client}
 use Rattle.mely_net.proofs.AnswerLemmas.{answers_here, asks_cell, idle_of}
-use Rattle.mely_net.proofs.TalkLemmas.{keeps_same}
+use Rattle.mely_net.proofs.TalkLemmas.{keeps_same, not_both}
 use Rattle.mely_net.proofs.client.Client.answer.Goals as goal
 
 pub returns-in-At-clause-keeps : goal.returns-in-At-clause-keeps
@@ -25,7 +25,7 @@ returns-in-Here-clause-keeps g c =
     let parts = sym (take-append-drop c.args.size view.inbox) ∙ ap (λ l. take c.args.size view.inbox ++ l) (sym c.take_off.ensures) in
     let is = c.requires.cut ∙ ap cut.Frame (sym (length-take-le c.args.size view.inbox c.requires.fits)) in
     let asks_it = subst (rules.Asks (take c.args.size view.inbox)) c.in-Here.is (subst (λ b. rules.Asks (take c.args.size b) c.in-Ok.asked) c.bytes.ensures c.in-Ok.ensures.asks) in
-    keeps_same rules view after (λ asks replies talk. answers_here rules asks replies view after (take c.args.size view.inbox) c.take_off.new.self (Here c.in-Here.reply) c.in-Here.reply view.is_last c.requires.come c.requires.goes_on c.requires.idle parts is asks_it refl refl (λ _ never. never) c.say.ensures
+    keeps_same rules view after (λ asks replies talk. answers_here rules asks replies view after (take c.args.size view.inbox) c.take_off.new.self (Here c.in-Here.reply) c.in-Here.reply view.is_last c.requires.come c.requires.goes_on c.requires.idle parts is asks_it refl refl (λ _ never. never) (λ last. not_both view.is_last last c.requires.not_last) c.say.ensures
     (idle_of rules asks replies view c.requires.goes_on c.requires.idle c.requires.not_last talk))
 
 pub returns-in-Last-clause-keeps : goal.returns-in-Last-clause-keeps
@@ -36,5 +36,5 @@ returns-in-Last-clause-keeps g c =
     let parts = sym (take-append-drop c.args.size view.inbox) ∙ ap (λ l. take c.args.size view.inbox ++ l) (sym c.take_off.ensures) in
     let is = c.requires.cut ∙ ap cut.Frame (sym (length-take-le c.args.size view.inbox c.requires.fits)) in
     let asks_it = subst (rules.Asks (take c.args.size view.inbox)) c.in-Last.is (subst (λ b. rules.Asks (take c.args.size b) c.in-Ok.asked) c.bytes.ensures c.in-Ok.ensures.asks) in
-    keeps_same rules view after (λ asks replies talk. answers_here rules asks replies view after (take c.args.size view.inbox) c.take_off.new.self (Last c.in-Last.reply) c.in-Last.reply true c.requires.come c.requires.goes_on c.requires.idle parts is asks_it refl refl (λ e _. let never : ⊥ = cc e in never) c.say-in-Last.ensures
+    keeps_same rules view after (λ asks replies talk. answers_here rules asks replies view after (take c.args.size view.inbox) c.take_off.new.self (Last c.in-Last.reply) c.in-Last.reply true c.requires.come c.requires.goes_on c.requires.idle parts is asks_it refl refl (λ e _. let never : ⊥ = cc e in never) (λ _. tt) c.say-in-Last.ensures
     (idle_of rules asks replies view c.requires.goes_on c.requires.idle c.requires.not_last talk))

@@ -2,4 +2,4 @@ use Rattle.std.proofs.Common.{◌≡◌}
 use Rattle.test_runtime.proofs.tests.chains.retell_all.Given as goal
 
 abbrev pub invariant-colours : goal.invariant-colours
-invariant-colours g l = l.queue.colours ≡ 65536
+invariant-colours l = l.queue.colours ≡ 65536

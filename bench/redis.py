@@ -1,0 +1,151 @@
+#!/usr/bin/env python3
+"""Tries `example_redis` over sockets, as its clients see it: commands, requests in one piece and byte by byte, faults, clients beside each other.
+
+    redis.py PROGRAM        starts the built program at a free port of this machine, and says what went wrong; status 1 where anything did
+
+What is expected is what Redis answers (https://redis.io/docs/latest/commands/), but for the limits, which are the program's own.
+"""
+import socket
+import subprocess
+import sys
+import threading
+import time
+
+FAULTS = []
+CONNECTIONS = 9
+
+
+def command(*words):
+    words = [word if isinstance(word, bytes) else str(word).encode() for word in words]
+    return b"*%d\r\n" % len(words) + b"".join(b"$%d\r\n%s\r\n" % (len(word), word) for word in words)
+
+
+class Client:
+    def __init__(self, port):
+        self.socket = socket.create_connection(("127.0.0.1", port), timeout=10)
+        self.bytes = b""
+
+    def take(self, count):
+        while len(self.bytes) < count:
+            more = self.socket.recv(65536)
+            if not more:
+                raise EOFError
+            self.bytes += more
+        taken, self.bytes = self.bytes[:count], self.bytes[count:]
+        return taken
+
+    def line(self):
+        line = b""
+        while not line.endswith(b"\r\n"):
+            line += self.take(1)
+        return line[:-2]
+
+    def reply(self):
+        line = self.line()
+        kind, rest = line[:1], line[1:]
+        if kind == b":":
+            return int(rest)
+        if kind == b"$":
+            return None if rest == b"-1" else self.take(int(rest) + 2)[:-2]
+        if kind == b"*":
+            return [self.reply() for _ in range(int(rest))]
+        return line.decode("latin1")
+
+    def ask(self, *words):
+        self.socket.sendall(command(*words))
+        return self.reply()
+
+    def ends(self):
+        try:
+            return self.socket.recv(1) == b"" and not self.bytes
+        except ConnectionResetError:
+            return True
+
+
+def expect(what, got, want):
+    if got != want:
+        FAULTS.append(f"{what}: {str(got)[:90]}, and not {str(want)[:90]}")
+
+
+NO_NUMBER = "-ERR value is not an integer or out of range"
+TOO_LONG = "-ERR string exceeds maximum allowed size (proto-max-bulk-len)"
+ROWS = [
+    ("PING", "+PONG"), ("ping hi", b"hi"), ("ECHO x", b"x"), ("GET k", None), ("SET k v", "+OK"), ("GET k", b"v"), ("SET k w NX", None), ("GET k", b"v"),
+    ("SET k w XX", "+OK"), ("GET k", b"w"), ("SET k z get", b"w"), ("SET new 1 NX GET", None), ("GET new", b"1"), ("SET none 1 XX", None),
+    ("SET k 1 NX XX", "-ERR syntax error"), ("SET k 1 EX 5", "-ERR syntax error"), ("SETNX k q", 0), ("SETNX fresh q", 1), ("GETSET fresh p", b"q"),
+    ("GETSET fresher p", None), ("EXISTS k", 1), ("DEL k", 1), ("DEL k", 0), ("EXISTS k", 0), ("INCR n", 1), ("INCRBY n 41", 42), ("DECR n", 41),
+    ("DECRBY n 50", -9), ("INCRBY n -1", -10), ("GET n", b"-10"), (f"SET n {2**63 - 1}", "+OK"), ("INCR n", "-ERR increment or decrement would overflow"),
+    (f"DECRBY n {-2**63}", "-ERR decrement would overflow"), ("GET n", b"%d" % (2**63 - 1)), (f"SET n {-2**63}", "+OK"),
+    ("DECR n", "-ERR increment or decrement would overflow"), ("INCR n", 1 - 2**63), ("INCR fresh", NO_NUMBER), ("SET n 007", "+OK"), ("INCR n", NO_NUMBER),
+    ("SET n +7", "+OK"), ("INCR n", NO_NUMBER), ("SET n -0", "+OK"), ("INCR n", NO_NUMBER), ("INCRBY n x", NO_NUMBER), ("APPEND t ab", 2), ("APPEND t cd", 4),
+    ("STRLEN t", 4), ("GET t", b"abcd"), ("STRLEN no", 0), ("COMMAND", []), ("COMMAND DOCS", []),
+    ("CLIENT SETINFO x", "-ERR unknown command 'CLIENT', with args beginning with: 'SETINFO' 'x' "), ("GET", "-ERR wrong number of arguments for 'get' command"),
+    ("get a b", "-ERR wrong number of arguments for 'get' command"), ("SET a", "-ERR wrong number of arguments for 'set' command"),
+    (f"SET {'x' * 1025} 1", "-ERR key exceeds maximum allowed size"), (f"SET big {'y' * 65536}", "+OK"), ("APPEND big z", TOO_LONG), ("STRLEN big", 65536),
+]
+BAD = [
+    (b"*x\r\n", "invalid multibulk length"), (b"*1\r\n+PING\r\n", "expected '$', got '+'"), (b"*1\r\n$x\r\n", "invalid bulk length"),
+    (b"*1\r\n$65537\r\n", "invalid bulk length"), (b"a" * 65537, "too big inline request"),
+]
+
+
+def try_commands(port):
+    client = Client(port)
+    for words, want in ROWS:
+        expect(words[:40], client.ask(*words.split(" ")), want)
+    client.socket.sendall(b"\r\nPING\r\n  SET in line \nGET in\r\n*0\r\n")
+    for want in ("+PONG", "+OK", b"line"):
+        expect("inline", client.reply(), want)
+    client.socket.sendall(b"".join(command("INCR", f"p{i % 50}") for i in range(2000)))
+    expect("many at once", [client.reply() for _ in range(2000)], [i // 50 + 1 for i in range(2000)])
+    for byte in command("SET", "piece", "two\r\nlines") + command("GET", "piece"):
+        client.socket.sendall(bytes([byte]))
+    expect("byte by byte", (client.reply(), client.reply()), ("+OK", b"two\r\nlines"))
+    client.socket.sendall(command("QUIT") + command("PING"))
+    expect("QUIT", (client.reply(), client.ends()), ("+OK", True))
+
+
+def try_faults(port):
+    for sent, words in BAD:
+        client = Client(port)
+        client.socket.sendall(command("SET", "kept", "yes") + sent)
+        expect(repr(sent[:20]), (client.reply(), client.reply(), client.ends()), ("+OK", "-ERR Protocol error: " + words, True))
+
+
+def try_beside(port):
+    still = Client(port)
+    still.socket.sendall(b"*2\r\n$3\r\nGET\r\n$1")
+    sums = []
+
+    def add():
+        client = Client(port)
+        sums.extend(client.ask("INCR", "both") for _ in range(1000))
+        client.socket.close()
+
+    threads = [threading.Thread(target=add) for _ in range(2)]
+    for one in threads:
+        one.start()
+    for one in threads:
+        one.join(timeout=60)
+    expect("two clients beside each other", sorted(sums), list(range(1, 2001)))
+    still.socket.close()
+
+
+def main():
+    if len(sys.argv) != 2:
+        sys.exit(__doc__)
+    program = subprocess.Popen([sys.argv[1], "0", str(CONNECTIONS), "4"], stdout=subprocess.PIPE, text=True)
+    try:
+        port = int(program.stdout.readline().rsplit(":", 1)[1])
+        try_commands(port)
+        try_faults(port)
+        try_beside(port)
+        expect("its last line", program.communicate(timeout=20)[0], f"{CONNECTIONS} connections were served, and 0 failed\n")
+        expect("its status", program.returncode, 0)
+    finally:
+        program.kill()
+    print("\n".join(FAULTS) if FAULTS else "all as expected")
+    sys.exit(1 if FAULTS else 0)
+
+
+main()

@@ -1,0 +1,175 @@
+-- What a request asks, and of which cell.
+-- The commands as in https://redis.io/docs/latest/commands/
+use Rattle.std.specs.Prelude.{◌+◌, ◌-◌, ◌*◌, ◌%◌, ◌^◌, pos, negsuc, ℕ, ℤ, List, [], ◌∷◌, ◌++◌, Option, Some, None, codes, length, map, nat_lt, neg_ℤ, option_and_then, take, if◌then◌else◌}
+use Rattle.std.specs.List.{fold}
+use lib.Signed.{mag}
+use Rattle.std.specs.Str.{str_eq_ignore_ascii_case}
+use Rattle.mely_net.specs.declared.asked.Asked.{Asked}
+use Rattle.mely_net.specs.declared.asked.Asked.TheVariants.{At, Here, Last}
+use Rattle.example_redis.specs.declared.asking.Options.{Options}
+use Rattle.example_redis.specs.declared.limits.TheConstants.{CELLS, MOST_KEY, MOST_SHOWN}
+use Rattle.example_redis.specs.declared.reply.Reply.{Reply}
+use Rattle.example_redis.specs.declared.request.Question.TheVariants.{Value, IsThere, Length}
+use Rattle.example_redis.specs.declared.request.Request.{Request}
+use Rattle.example_redis.specs.declared.request.Tells.TheVariants as tells
+use Rattle.example_redis.specs.declared.request.When.{When}
+use Rattle.example_redis.specs.declared.request.When.TheVariants.{Always, Absent, Present}
+use Rattle.example_redis.specs.declared.verb.Verb.{Verb}
+use Rattle.example_redis.specs.declared.verb.Verb.TheVariants as verb
+use Rattle.example_redis.specs.Frames.{Saying, Says, Errs, Stops, heard_of}
+use Rattle.example_redis.specs.Numbers.{number_of}
+use Rattle.example_redis.specs.Replies.{bulk, error, shown_byte, shown_reply, text_of_fault}
+use Rattle.example_redis.specs.Values.{Deed, Looks, Sets, Deletes, Adds, Appends, deed_of, okay}
+use Rattle.example_redis.specs.Verbs.{name_of, verb_of}
+
+-- a cell does this with the value of a key; or this is replied; or it is, and the connection ends
+pub data Plan : Type 0 where
+  Cell : ℕ → List ℕ → Deed → Plan
+  Answer : List ℕ → Plan
+  Ends : List ℕ → Plan
+
+-- ---- of which cell
+
+abbrev pub hash_of : List ℕ → ℕ
+hash_of key = fold (λ hash byte. (hash * 31 + byte) % 65521) 7 key
+
+-- a key is in the cell of its hash
+abbrev pub cell_of : List ℕ → ℕ
+cell_of key = hash_of key % CELLS
+
+abbrev pub plan_at : List ℕ → Deed → Plan
+plan_at key deed = if nat_lt MOST_KEY (length key)
+    then Answer (error (codes "key exceeds maximum allowed size"))
+    else Cell (cell_of key) key deed
+
+-- ---- what isn't asked
+
+-- the first bytes of a word, in quotes
+abbrev pub quoted : ℕ → List ℕ → List ℕ
+quoted most word = codes "'" ++ map shown_byte (take most word) ++ codes "'"
+
+abbrev pub with_word_of : List ℕ → List ℕ → List ℕ
+with_word_of text word = if nat_lt (length text) MOST_SHOWN
+    then text ++ quoted (MOST_SHOWN - length text) word ++ codes " " else text
+
+abbrev pub unknown : List ℕ → List (List ℕ) → Plan
+unknown name words = Answer (error (codes "unknown command " ++ quoted MOST_SHOWN name
+    ++ codes ", with args beginning with: " ++ fold with_word_of [] words))
+
+abbrev pub wrong_number : Verb → Plan
+wrong_number verb = Answer (error (codes "wrong number of arguments for '" ++ name_of verb
+    ++ codes "' command"))
+
+-- ---- the options of SET
+
+-- NX and XX aren't both given
+abbrev pub both : When → When → Option When
+both Always now = Some now
+both Absent Absent = Some Absent
+both Absent now = None
+both Present Present = Some Present
+both Present now = None
+
+abbrev pub with_when : Options → Option When → Option Options
+with_when options None = None
+with_when options (Some when) = Some (record options { when = when })
+
+abbrev pub with_option : Options → List ℕ → Option Options
+with_option options word =
+    if str_eq_ignore_ascii_case word (codes "nx") then with_when options (both options.when Absent)
+    else if str_eq_ignore_ascii_case word (codes "xx")
+    then with_when options (both options.when Present)
+    else if str_eq_ignore_ascii_case word (codes "get")
+    then Some (record options { tells = tells.Before }) else None
+
+abbrev pub no_options : Options
+no_options = record { when = Always; tells = tells.Done }
+
+abbrev pub options_from : Options → List (List ℕ) → Option Options
+options_from options [] = Some options
+options_from options (word ∷ words) =
+    option_and_then (λ further. options_from further words) (with_option options word)
+
+abbrev pub plan_to_set : List ℕ → List ℕ → Option Options → Plan
+plan_to_set key value None = Answer (error (codes "syntax error"))
+plan_to_set key value (Some options) = plan_at key (Sets value options.when options.tells)
+
+-- ---- the commands
+
+abbrev pub plan_to_add : List ℕ → Option ℤ → Plan
+plan_to_add key None = Answer (error (codes "value is not an integer or out of range"))
+plan_to_add key (Some number) = plan_at key (Adds number)
+
+abbrev pub bare : Verb → Plan
+bare verb.Ping = Answer (codes "+PONG\r\n")
+bare verb.Command = Answer (codes "*0\r\n")
+bare verb.Quit = Ends okay
+bare verb = wrong_number verb
+
+abbrev pub with_key : Verb → List ℕ → Plan
+with_key verb.Ping key = Answer (bulk key)
+with_key verb.Echo key = Answer (bulk key)
+with_key verb.Get key = plan_at key (Looks Value)
+with_key verb.Exists key = plan_at key (Looks IsThere)
+with_key verb.StrLen key = plan_at key (Looks Length)
+with_key verb.Del key = plan_at key Deletes
+with_key verb.Incr key = plan_at key (Adds (pos 1))
+with_key verb.Decr key = plan_at key (Adds (negsuc 0))
+with_key verb.Command key = Answer (codes "*0\r\n")
+with_key verb.Quit key = Ends okay
+with_key verb key = wrong_number verb
+
+-- INCRBY and DECRBY
+abbrev pub plan_to_subtract : List ℕ → Option ℤ → Plan
+plan_to_subtract key None = plan_to_add key None
+plan_to_subtract key (Some number) = if nat_lt (mag (neg_ℤ number)) (2 ^ 63)
+    then plan_at key (Adds (neg_ℤ number)) else Answer (error (codes "decrement would overflow"))
+
+abbrev pub with_value : Verb → List ℕ → List ℕ → Plan
+with_value verb.SetNx key value = plan_at key (Sets value Absent tells.Count)
+with_value verb.GetSet key value = plan_at key (Sets value Always tells.Before)
+with_value verb.IncrBy key value = plan_to_add key (number_of value)
+with_value verb.DecrBy key value = plan_to_subtract key (number_of value)
+with_value verb.Append key value = plan_at key (Appends value)
+with_value verb.Set key value = plan_to_set key value (Some no_options)
+with_value verb.Command key value = bare verb.Command
+with_value verb.Quit key value = bare verb.Quit
+with_value verb key value = wrong_number verb
+
+abbrev pub with_more : Verb → List ℕ → List ℕ → List (List ℕ) → Plan
+with_more verb.Set key value more = plan_to_set key value (options_from no_options more)
+with_more verb.Command key value more = bare verb.Command
+with_more verb.Quit key value more = bare verb.Quit
+with_more verb key value more = wrong_number verb
+
+abbrev pub plan_of_verb : Verb → List (List ℕ) → Plan
+plan_of_verb verb [] = bare verb
+plan_of_verb verb (key ∷ []) = with_key verb key
+plan_of_verb verb (key ∷ value ∷ []) = with_value verb key value
+plan_of_verb verb (key ∷ value ∷ more) = with_more verb key value more
+
+abbrev pub plan_of_name : List ℕ → Option Verb → List (List ℕ) → Plan
+plan_of_name name None words = unknown name words
+plan_of_name name (Some verb) words = plan_of_verb verb words
+
+-- a request without words isn't answered
+abbrev pub plan_of_words : List (List ℕ) → Plan
+plan_of_words [] = Answer []
+plan_of_words (name ∷ words) = plan_of_name name (verb_of name) words
+
+-- what a frame asks: what its words do, or that it is no request, and the connection ends
+abbrev pub plan_of_saying : Saying → Plan
+plan_of_saying (Says words) = plan_of_words words
+plan_of_saying (Errs fault) =
+    Ends (error (codes "Protocol error: " ++ text_of_fault fault))
+plan_of_saying Stops = Ends []
+
+abbrev pub plan_of : List ℕ → Plan
+plan_of frame = plan_of_saying (heard_of frame)
+
+-- ---- as the code has it
+
+abbrev pub plan_in : Asked Request Reply → Plan
+plan_in (At cell request) = Cell cell request.key.items (deed_of request.action)
+plan_in (Here reply) = Answer (shown_reply reply)
+plan_in (Last reply) = Ends (shown_reply reply)

@@ -1,0 +1,10 @@
+pub mod Frames
+pub mod Hearing
+pub mod Verbs
+pub mod Replies
+pub mod Numbers
+pub mod Values
+pub mod Asking
+pub mod Stored
+pub mod Sent
+pub mod Words

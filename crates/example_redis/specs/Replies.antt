@@ -1,0 +1,56 @@
+-- What a reply is in bytes: RESP, "RESP protocol description", version 2.
+use Rattle.std.specs.Prelude.{◌==◌, ◌||◌, ℕ, ℤ, List, [], ◌∷◌, ◌++◌, codes, length, pos, if◌then◌else◌}
+use Rattle.std.specs.Fmt.{decimal, signed_decimal}
+use Rattle.example_redis.specs.declared.frame.Fault.{Fault}
+use Rattle.example_redis.specs.declared.frame.Fault.TheVariants as fault
+use Rattle.example_redis.specs.declared.reply.Refusal.{Refusal}
+use Rattle.example_redis.specs.declared.reply.Refusal.TheVariants as refusal
+use Rattle.example_redis.specs.declared.reply.Reply.{Reply}
+use Rattle.example_redis.specs.declared.reply.Reply.TheVariants as reply
+use Rattle.example_redis.specs.Verbs.{name_of}
+
+-- a line feed or a carriage return is shown as a space
+abbrev pub shown_byte : ℕ → ℕ
+shown_byte byte = if byte == 13 || byte == 10 then 32 else byte
+
+abbrev pub text_of_fault : Fault → List ℕ
+text_of_fault fault.Count = codes "invalid multibulk length"
+text_of_fault fault.Size = codes "invalid bulk length"
+text_of_fault (fault.NoWord byte) =
+    codes "expected '$', got '" ++ shown_byte byte ∷ codes "'"
+text_of_fault fault.NoEnd = codes "a word without its line end"
+text_of_fault fault.LongLine = codes "too big inline request"
+
+abbrev pub text_of : Refusal → List ℕ
+text_of (refusal.Unknown words) = codes "unknown command " ++ words.items
+text_of (refusal.Arguments verb) =
+    codes "wrong number of arguments for '" ++ name_of verb ++ codes "' command"
+text_of refusal.Syntax = codes "syntax error"
+text_of refusal.NoNumber = codes "value is not an integer or out of range"
+text_of refusal.Overflow = codes "increment or decrement would overflow"
+text_of refusal.Decrement = codes "decrement would overflow"
+text_of refusal.LongKey = codes "key exceeds maximum allowed size"
+text_of refusal.LongValue = codes "string exceeds maximum allowed size (proto-max-bulk-len)"
+text_of (refusal.Protocol fault) = codes "Protocol error: " ++ text_of_fault fault
+text_of refusal.LongRequest = codes "Protocol error: too big request"
+
+-- a value, with its size in front
+abbrev pub bulk : List ℕ → List ℕ
+bulk value = codes "$" ++ decimal (length value) ++ codes "\r\n" ++ value ++ codes "\r\n"
+
+abbrev pub integer : ℤ → List ℕ
+integer number = codes ":" ++ signed_decimal number ++ codes "\r\n"
+
+abbrev pub error : List ℕ → List ℕ
+error text = codes "-ERR " ++ text ++ codes "\r\n"
+
+abbrev pub shown_reply : Reply → List ℕ
+shown_reply reply.Silence = []
+shown_reply reply.Okay = codes "+OK\r\n"
+shown_reply reply.Pong = codes "+PONG\r\n"
+shown_reply reply.Nil = codes "$-1\r\n"
+shown_reply reply.NoItems = codes "*0\r\n"
+shown_reply (reply.Count count) = integer (pos count)
+shown_reply (reply.Number number) = integer number
+shown_reply (reply.Value value) = bulk value.items
+shown_reply (reply.Refused refusal) = error (text_of refusal)

@@ -1,0 +1,37 @@
+-- The names of commands: https://redis.io/docs/latest/commands/
+use Rattle.std.specs.Prelude.{ℕ, List, [], ◌∷◌, Option, None, Some, codes, if◌then◌else◌}
+use Rattle.std.specs.Str.{str_eq_ignore_ascii_case}
+use Rattle.example_redis.specs.declared.verb.Verb.{Verb}
+use Rattle.example_redis.specs.declared.verb.Verb.TheVariants as verb
+
+abbrev pub name_of : Verb → List ℕ
+name_of verb.Ping = codes "ping"
+name_of verb.Echo = codes "echo"
+name_of verb.Get = codes "get"
+name_of verb.Set = codes "set"
+name_of verb.SetNx = codes "setnx"
+name_of verb.GetSet = codes "getset"
+name_of verb.Del = codes "del"
+name_of verb.Exists = codes "exists"
+name_of verb.Incr = codes "incr"
+name_of verb.Decr = codes "decr"
+name_of verb.IncrBy = codes "incrby"
+name_of verb.DecrBy = codes "decrby"
+name_of verb.Append = codes "append"
+name_of verb.StrLen = codes "strlen"
+name_of verb.Command = codes "command"
+name_of verb.Quit = codes "quit"
+
+abbrev pub verbs : List Verb
+verbs = verb.Ping ∷ verb.Echo ∷ verb.Get ∷ verb.Set ∷ verb.SetNx ∷ verb.GetSet ∷ verb.Del
+    ∷ verb.Exists ∷ verb.Incr ∷ verb.Decr ∷ verb.IncrBy ∷ verb.DecrBy ∷ verb.Append
+    ∷ verb.StrLen ∷ verb.Command ∷ verb.Quit ∷ []
+
+-- the first command whose name this is, in letters of any case
+abbrev pub verb_among : List ℕ → List Verb → Option Verb
+verb_among name [] = None
+verb_among name (one ∷ more) = if str_eq_ignore_ascii_case name (name_of one)
+    then Some one else verb_among name more
+
+abbrev pub verb_of : List ℕ → Option Verb
+verb_of name = verb_among name verbs

@@ -1,0 +1,93 @@
+//! `example_redis PORT CLIENTS [WORKERS]`: a store of values under keys that speaks the protocol of
+//! Redis, so that its clients can be clients of this.
+//!
+//! It listens on 127.0.0.1, says where, and takes so many connections in all, up to 1,024; when all
+//! of them have ended it says how many failed, and ends. Once the last has come, nobody takes
+//! further ones, and who moves less than 240 bytes a second for five seconds is cut, as by `swsd`.
+//! Without words it takes standard input for what one client sends, and writes what that client is
+//! told: so a file of requests can be tried without a network.
+//!
+//! It knows PING, ECHO, GET, SET (with NX, XX and GET), SETNX, GETSET, DEL and EXISTS of one key,
+//! INCR, DECR, INCRBY, DECRBY, APPEND, STRLEN, COMMAND (which lists none) and QUIT, as arrays of
+//! bulk strings or as lines. A key has 1,024 bytes at most, a value 65,536, a request 262,144 and
+//! 1,024 words. Nothing is kept when it ends.
+//!
+//! It is an example of a service, to copy: `frame.rt` says where a request ends, `asking.rt` what
+//! it asks and of which cell, `value.rt` what becomes of the value of a key, `reply.rt` how a reply
+//! is written, and `store.rt` puts these together. A key is in the cell of its hash, so all
+//! processors serve keys at once, and no handler takes a lock.
+//!
+//! The statuses are 2 for wrong words, 6 where nobody can listen at the port or the network failed,
+//! and 7 for want of memory.
+#![tactic(auto)]
+
+mod asking;
+mod frame;
+mod heard;
+mod laws;
+mod limits;
+mod number;
+mod over_bytes;
+mod over_tcp;
+mod reply;
+mod request;
+mod store;
+mod value;
+mod verb;
+mod words;
+
+use over_bytes::serve_bytes;
+use over_tcp::{Fault, serve_tcp};
+use std::io;
+use std::io::{Read, Write};
+use std::process::ExitCode;
+use std::sync::Wait;
+use std::thread::Threads;
+use words::{Words, read_words};
+
+/// Serves what standard input has. Threads are of the second handle, which is the same runtime.
+fn serve_input<R: Threads + Wait + Sync>(rt: &HostRuntime, threads: &R) -> io::Result<ExitCode> {
+    let mut bytes = Vec::new(rt.alloc());
+    rt.reader().read_to_end(&mut bytes)?;
+    match serve_bytes(threads, rt.alloc(), bytes) {
+        Ok(told) => {
+            io::writer(rt).write_all(told.as_slice())?;
+            Ok(ExitCode::SUCCESS)
+        }
+        Err(_) => {
+            eprintln!(rt; "example_redis: no memory")?;
+            Ok(ExitCode::from(7))
+        }
+    }
+}
+
+fn main(rt: HostRuntime) -> io::Result<ExitCode> {
+    let words = match read_words(&rt) {
+        Words::Port(words) => words,
+        Words::Input => return serve_input(&rt, &rt),
+        Words::Wrong => {
+            eprintln!(rt; "usage: example_redis PORT CLIENTS [WORKERS]")?;
+            eprintln!(rt; "       example_redis < REQUESTS")?;
+            eprintln!(rt; "CLIENTS is from 1 to 1024, WORKERS from 1 to 64; PORT 0 is any port")?;
+            return Ok(ExitCode::from(2));
+        }
+    };
+    match serve_tcp(&rt, &rt, &words) {
+        Ok(()) => Ok(ExitCode::SUCCESS),
+        Err(Fault::Listen(error)) => {
+            eprintln!(rt;
+                "example_redis: can't listen at port {}: {error}",
+                words.port
+            )?;
+            Ok(ExitCode::from(6))
+        }
+        Err(Fault::Network) => {
+            eprintln!(rt; "example_redis: the network failed")?;
+            Ok(ExitCode::from(6))
+        }
+        Err(Fault::Memory) => {
+            eprintln!(rt; "example_redis: no memory")?;
+            Ok(ExitCode::from(7))
+        }
+    }
+}

@@ -1,0 +1,115 @@
+//! The store over TCP.
+ghost use Rattle.example_redis.specs.Words.{IsInRange};
+
+use crate::store::{Store, Values};
+use crate::words::Listening;
+use mely_actor::Ended;
+use mely_event::Memory;
+use mely_net::{End, Part, serve};
+use std::alloc::AllocError;
+use std::io::{self, ErrorKind};
+use std::net::{IpAddr, Ipv4Addr, SocketAddr, TcpListener};
+use std::sync::Wait;
+use std::thread::Threads;
+use sws_link::{Opened, World};
+use sws_net::{Door, Entrance, LaneWorld, TcpLink};
+
+/// Why nothing was served.
+pub enum Fault {
+    /// Nobody can listen at the port.
+    Listen(io::Error),
+
+    /// The network failed, or standard output.
+    Network,
+
+    /// There was no memory.
+    Memory,
+}
+
+impl From<AllocError> for Fault {
+    fn from(_error: AllocError) -> Fault {
+        Fault::Memory
+    }
+}
+
+impl From<Memory> for Fault {
+    fn from(_error: Memory) -> Fault {
+        Fault::Memory
+    }
+}
+
+/// What an error of listening comes to.
+fn listen_fault(error: io::Error) -> Fault {
+    if error.kind() == ErrorKind::OutOfMemory {
+        Fault::Memory
+    } else {
+        Fault::Listen(error)
+    }
+}
+
+/// Listens on this machine's own address, and says where.
+fn listen(rt: &HostRuntime, port: u16) -> io::Result<TcpListener> {
+    let address = SocketAddr::new(IpAddr::V4(Ipv4Addr::new(127, 0, 0, 1)), port);
+    let listener = TcpListener::bind(rt, address)?;
+    listener.set_nonblocking(true)?;
+    println!(rt; "listening on {}", listener.local_addr()?)?;
+    Ok(listener)
+}
+
+/// Serves so many connections to a port, until all of them have ended, and says how many failed.
+/// Threads are of the second handle, which is the same runtime: only where a program begins does it
+/// have threads to give.
+///
+/// # Errors
+///
+/// As of [`Fault`].
+pub fn serve_tcp<R: Threads + Wait + Sync>(
+    rt: &HostRuntime,
+    threads: &R,
+    words: &Listening,
+) -> Result<(), Fault>
+    requires { IsInRange words.now }
+{
+    let listener = listen(rt, words.port).map_err(listen_fault)?;
+    let door = Door::new(rt.alloc(), 1, 1)?;
+    door.try_enter(0);
+    let entrance = Entrance {
+        door: &door,
+        listener: &listener,
+        stop: None,
+        age: u64::MAX,
+        grace: u64::MAX,
+    };
+    let mut world = LaneWorld::new(rt, entrance, 0)?;
+    match world.open(words.port, words.clients) {
+        Opened::Ready => {}
+        Opened::Failed => return Err(Fault::Network),
+        Opened::Memory => return Err(Fault::Memory),
+    }
+    let ended = serve(threads, rt.alloc(), words.workers, Store, world)?;
+    tell(rt, &ended)
+}
+
+/// What a run over sockets leaves.
+type Left<'d> = Ended<Part<Values, LaneWorld<'d>, TcpLink>>;
+
+/// Says how many connections there were, and how many of them failed.
+fn tell(rt: &HostRuntime, ended: &Left<'_>) -> Result<(), Fault> {
+    let mut is_broken = false;
+    let (mut served, mut failed): (u32, u32) = (0, 0);
+    for part in ended.values.iter() {
+        match part {
+            Part::Desk(desk) => is_broken = desk.is_broken(),
+            Part::Cell(_) => {}
+            Part::Client(client) => match client.end() {
+                Some(End::Left) | Some(End::Done) => served = served.saturating_add(1),
+                _ => failed = failed.saturating_add(1),
+            },
+        }
+    }
+    let told = println!(rt; "{served} connections were served, and {failed} failed");
+    if is_broken || told.is_err() {
+        return Err(Fault::Network);
+    }
+    Ok(())
+}

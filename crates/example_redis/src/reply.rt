@@ -1,0 +1,194 @@
+//! What is replied.
+ghost use Rattle.std.specs.Prelude.{◌≡◌, ◌++◌, OnOk, pos};
+ghost use Rattle.example_redis.specs.Replies.{bulk, error, integer, shown_byte, shown_reply, text_of, text_of_fault};
+
+use crate::frame::Fault;
+use crate::verb::Verb;
+use itoa::Buffer;
+use mely_event::Memory;
+
+/// Why a request isn't done.
+#[derive(Drop)]
+pub enum Refusal {
+    /// There is no such command; this says which one it was, and its words.
+    Unknown(Vec<u8>),
+
+    /// The command has another number of words.
+    Arguments(Verb),
+
+    /// A word of it is unknown there.
+    Syntax,
+
+    /// The value is no number, or out of range.
+    NoNumber,
+
+    /// The sum would be out of range.
+    Overflow,
+
+    /// What is to be subtracted has no negative.
+    Decrement,
+
+    /// The key has too many bytes.
+    LongKey,
+
+    /// The value would have too many.
+    LongValue,
+
+    /// It is no request.
+    Protocol(Fault),
+
+    /// It has too many bytes in all.
+    LongRequest,
+}
+
+/// What is replied.
+#[derive(Drop)]
+pub enum Reply {
+    /// Nothing at all, to a request without words.
+    Silence,
+    Okay,
+    Pong,
+
+    /// That there is no value.
+    Nil,
+
+    /// A list without items.
+    NoItems,
+
+    /// How many there are.
+    Count(usize),
+    Number(i64),
+    Value(Vec<u8>),
+    Refused(Refusal),
+}
+
+/// Puts bytes behind others.
+fn put(out: &mut Vec<u8>, bytes: &[u8]) -> Result<(), Memory>
+    ensures { OnOk result (out.new.items ≡ out.old.items ++ bytes.now) }
+{
+    out.extend_from_slice(bytes)?;
+    Ok(())
+}
+
+/// A byte as it is shown within a line.
+pub fn shown(byte: u8) -> u8
+    ensures { result ≡ shown_byte byte }
+{
+    if byte == b'\r' || byte == b'\n' {
+        b' '
+    } else {
+        byte
+    }
+}
+
+/// Puts the words of a fault behind others.
+fn write_fault(fault: Fault, out: &mut Vec<u8>) -> Result<(), Memory>
+    ensures { OnOk result (out.new.items ≡ out.old.items ++ text_of_fault fault) }
+{
+    match fault {
+        Fault::Count => put(out, b"invalid multibulk length"),
+        Fault::Size => put(out, b"invalid bulk length"),
+        Fault::NoWord(byte) => {
+            put(out, b"expected '$', got '")?;
+            out.push(shown(byte))?;
+            put(out, b"'")
+        }
+        Fault::NoEnd => put(out, b"a word without its line end"),
+        Fault::LongLine => put(out, b"too big inline request"),
+    }
+}
+
+/// Puts the words of a refusal behind others.
+fn write_refusal(refusal: &Refusal, out: &mut Vec<u8>) -> Result<(), Memory>
+    ensures { OnOk result (out.new.items ≡ out.old.items ++ text_of refusal.now) }
+{
+    match refusal {
+        Refusal::Unknown(words) => {
+            put(out, b"unknown command ")?;
+            put(out, words.as_slice())
+        }
+        Refusal::Arguments(verb) => {
+            put(out, b"wrong number of arguments for '")?;
+            put(out, verb.name())?;
+            put(out, b"' command")
+        }
+        Refusal::Syntax => put(out, b"syntax error"),
+        Refusal::NoNumber => put(out, b"value is not an integer or out of range"),
+        Refusal::Overflow => put(out, b"increment or decrement would overflow"),
+        Refusal::Decrement => put(out, b"decrement would overflow"),
+        Refusal::LongKey => put(out, b"key exceeds maximum allowed size"),
+        Refusal::LongValue => {
+            put(
+                out,
+                b"string exceeds maximum allowed size (proto-max-bulk-len)",
+            )
+        }
+        Refusal::Protocol(fault) => {
+            put(out, b"Protocol error: ")?;
+            write_fault(*fault, out)
+        }
+        Refusal::LongRequest => put(out, b"Protocol error: too big request"),
+    }
+}
+
+/// Puts a value, with its size in front, behind others.
+fn write_value(value: &[u8], out: &mut Vec<u8>) -> Result<(), Memory>
+    ensures { OnOk result (out.new.items ≡ out.old.items ++ bulk value.now) }
+{
+    let mut digits = Buffer::new();
+    put(out, b"$")?;
+    put(out, digits.format(value.len()).as_bytes())?;
+    put(out, b"\r\n")?;
+    put(out, value)?;
+    put(out, b"\r\n")
+}
+
+/// Puts a number behind others.
+fn write_number(number: i64, out: &mut Vec<u8>) -> Result<(), Memory>
+    ensures { OnOk result (out.new.items ≡ out.old.items ++ integer number) }
+{
+    let mut digits = Buffer::new();
+    put(out, b":")?;
+    put(out, digits.format(number).as_bytes())?;
+    put(out, b"\r\n")
+}
+
+/// Puts a count behind others.
+fn write_count(count: usize, out: &mut Vec<u8>) -> Result<(), Memory>
+    ensures { OnOk result (out.new.items ≡ out.old.items ++ integer (pos count)) }
+{
+    let mut digits = Buffer::new();
+    put(out, b":")?;
+    put(out, digits.format(count).as_bytes())?;
+    put(out, b"\r\n")
+}
+
+/// Puts a refusal behind others.
+fn write_error(refusal: &Refusal, out: &mut Vec<u8>) -> Result<(), Memory>
+    ensures { OnOk result (out.new.items ≡ out.old.items ++ error (text_of refusal.now)) }
+{
+    put(out, b"-ERR ")?;
+    write_refusal(refusal, out)?;
+    put(out, b"\r\n")
+}
+
+/// Puts a reply behind others.
+///
+/// # Errors
+///
+/// There was no memory.
+pub fn write(reply: &Reply, out: &mut Vec<u8>) -> Result<(), Memory>
+    ensures { OnOk result (out.new.items ≡ out.old.items ++ shown_reply reply.now) }
+{
+    match reply {
+        Reply::Silence => Ok(()),
+        Reply::Okay => put(out, b"+OK\r\n"),
+        Reply::Pong => put(out, b"+PONG\r\n"),
+        Reply::Nil => put(out, b"$-1\r\n"),
+        Reply::NoItems => put(out, b"*0\r\n"),
+        Reply::Count(count) => write_count(*count, out),
+        Reply::Number(number) => write_number(*number, out),
+        Reply::Value(value) => write_value(value.as_slice(), out),
+        Reply::Refused(refusal) => write_error(refusal, out),
+    }
+}

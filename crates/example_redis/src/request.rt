@@ -1,0 +1,69 @@
+//! What a cell is asked.
+
+/// On what a value is set.
+#[derive(Clone, Copy)]
+pub enum When {
+    Always,
+
+    /// Only where the key has none.
+    Absent,
+
+    /// Only where it has one.
+    Present,
+}
+
+/// What is replied where a value is to be set.
+#[derive(Clone, Copy)]
+pub enum Tells {
+    /// That it was; or nothing.
+    Done,
+
+    /// The value before.
+    Before,
+
+    /// How many were.
+    Count,
+}
+
+/// What is asked of the value of a key.
+#[derive(Clone, Copy)]
+pub enum Question {
+    /// Which it is.
+    Value,
+
+    /// Whether there is one.
+    IsThere,
+
+    /// How many bytes it has.
+    Length,
+}
+
+/// What becomes of the value of a key.
+#[derive(Drop)]
+pub enum Change {
+    /// It is this one.
+    Set(Vec<u8>, When, Tells),
+
+    /// There is none.
+    Delete,
+
+    /// So much is added to the number that it is.
+    Add(i64),
+
+    /// These bytes come behind it.
+    Append(Vec<u8>),
+}
+
+/// What is done with the value of a key.
+#[derive(Drop)]
+pub enum Action {
+    Look(Question),
+    Make(Change),
+}
+
+/// What a cell is asked: of which key, and what is done with its value.
+#[derive(Drop)]
+pub struct Request {
+    pub key: Vec<u8>,
+    pub action: Action,
+}

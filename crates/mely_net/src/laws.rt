@@ -1,0 +1,19 @@
+//! A law over moments of a run.
+ghost use Rattle.std.specs.Prelude.{ℕ};
+ghost use Rattle.mely_net.specs.Bounds.{AreAt, Mail, OneWaits};
+ghost use Rattle.mely_net.specs.declared.client.Client.{Client};
+
+use crate::service::Service;
+use sws_link::{Link, World};
+
+/// Of each connection one request at most waits for a cell: where both are as their handlers leave
+/// them, and the connection was replied no more than the cell has sent to it, the cell has received
+/// all that the connection has sent to it, but for one. So the queue of a cell has no more requests
+/// than there are connections.
+pub fn one_request_of_a_connection_waits<S: Service, W: World + Drop>()
+    ensures { (service : S) (client cell : ℕ)
+        (of_client of_cell : Mail W W.Link S.Request S.Reply)
+        (value : Client W.Link W.Link.Link) (kept : S.Cell)
+        → AreAt (S.rules_of service) W.Link.Link client cell of_client of_cell value kept
+        → OneWaits (S.rules_of service) W.Link.Link client cell of_client of_cell }
+{}

@@ -1,4 +1,0 @@
-pub mod PathRunsLemmas
-pub mod PathTalksLemmas
-pub mod PathServerLemmas
-pub mod ScriptFollowedLemmas

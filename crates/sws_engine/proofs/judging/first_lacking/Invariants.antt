@@ -1,5 +1,0 @@
-use Rattle.sws_engine.specs.RunLeaves.{AreWhole, lines_kept}
-use Rattle.sws_engine.proofs.judging.first_lacking.Given as goal
-
-abbrev pub invariant-loop-conn : goal.invariant-loop-conn
-invariant-loop-conn g l = AreWhole (lines_kept l.log l.lines) l.served l.conn

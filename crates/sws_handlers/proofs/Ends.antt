@@ -1,0 +1,4 @@
+pub mod LeftLemmas
+pub mod HandingLemmas
+pub mod ConcludeLemmas
+pub mod LogTurnsLemmas

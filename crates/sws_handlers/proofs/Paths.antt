@@ -1,0 +1,3 @@
+pub mod PathRunsLemmas
+pub mod PathTalksLemmas
+pub mod PathServerLemmas

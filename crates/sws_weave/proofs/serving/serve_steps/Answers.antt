@@ -1,0 +1,10 @@
+use Rattle.std.proofs.Common.{refl, map}
+use Rattle.sws_conn.specs.Logs.{steps_of}
+use Rattle.sws_weave.proofs.Model.ScriptsLemmas.{scripts_tell}
+use Rattle.sws_weave.proofs.serving.serve_steps.Goals as goal
+
+pub returns-clause-scheduled : goal.returns-clause-scheduled
+returns-clause-scheduled g c = λ scripts tells ok.
+    c.talk_steps.ensures.model (map (steps_of c.args.site.now) scripts)
+    (scripts_tell g.W.World g.W.Link.Link _ c.args.site.now (steps_of c.args.site.now) (λ script. refl) c.args.world scripts tells)
+    (c.each_path_opens_once.ensures c.args.site.now scripts c.limits.ensures) ok
