@@ -2,19 +2,25 @@
 """Measures `sws serve` and `swsd` beside nginx, lighttpd, h2o and the same sockets without the runtime, in one run, and prints a table.
 
     bench/serve.py [--runs N] [--connections N] [--requests N] [--at-once N] [--in-flight N,..] [--sizes BYTES,..] [--workers N,..]
-                   [--server CPUS] [--client CPUS] [--only WORD] [--program FILE] [--calls]
+                   [--lone N] [--idle N] [--log] [--server CPUS] [--client CPUS] [--only WORD] [--program FILE] [--daemon FILE] [--calls]
 
-It wants the program (`./sws`, or --program), `swsd` (`./swsd --version`), measure_net (`rt run` in crates/measure_net), and a C compiler for the
+It wants the program (`./sws`, or --program), `swsd` (`./swsd --version`, or --daemon), measure_net (`rt run` in crates/measure_net), and a C compiler for the
 client; a server that isn't there is left out. Each server serves one folder to bench/load.c, which makes so many connections on this machine's loopback, so many
-of them at once, each with so many requests, one after another and 16 at a time. `sws` with several workers is run in the shape that the
-documents advise (64 shards, cost 9) and in the default one, `swsd` with so many lanes of one worker that take connections. A figure is processor time of the server for each request (user and system),
-the least of all runs; beside it are the requests a second by the clock, the client's processor time a request and the median of a
-request's time, each of the run with the most requests a second, which want a machine that does nothing else. --server and --client name
-the processors of each, as taskset has them. With --calls the calls of futex a request are counted too, in a run of their own under
+of them at once, each with so many requests, one after another and 16 at a time; of a file of 64 KiB or more it makes fewer. `sws` with several workers is run in
+the shape that the documents advise (64 shards, cost 9) and in the default one, `swsd` with so many lanes of one worker that take connections. nginx is run in two
+forms, by sendfile and without, each with its file cache, and the row is that of the cheaper one. The same sockets without the runtime, the floor, come first.
+
+Behind these rows come those of a lone client, of so many requests one after another, 64 a connection (--lone, 0 for none), and of one beside so many
+connections that stand idle meanwhile (--idle, 0 for none). With --log `swsd` and nginx are run with their logs too.
+
+All servers are run in turn, and so for each run. A row is the median run by processor time of the server for each request (user and system); the requests a second by the
+clock, the client's processor time a request and the median of a request's time are those of the same run, and want a machine that does nothing else. --server and --client
+name the processors of each, as taskset has them. With --calls the calls of futex a request are counted too, in a run of their own under
 strace. Every server and every run of the client ends, and all that was made stands in a new folder below the system's temporary one,
 removed at the end.
 """
 import argparse
+import contextlib
 import os
 import shutil
 import signal
@@ -35,13 +41,12 @@ NGINX = """
 daemon off; user root; worker_processes {workers}; error_log {folder}/nginx.log; pid {folder}/nginx.pid;
 events {{ worker_connections 2048; }}
 http {{
-  access_log off; keepalive_requests 1000000; sendfile on; tcp_nopush on; {cache}
+  access_log {log}; keepalive_requests 1000000; sendfile {sendfile}; tcp_nopush {sendfile}; open_file_cache max=1000; open_file_cache_valid 60s;
   default_type text/plain;
   client_body_temp_path {folder}/b; proxy_temp_path {folder}/p; fastcgi_temp_path {folder}/f; uwsgi_temp_path {folder}/u; scgi_temp_path {folder}/s;
   server {{ listen 127.0.0.1:{port} backlog=1024; root {site}; }}
 }}
 """
-CACHE = "open_file_cache max=1000; open_file_cache_valid 60s;"
 LIGHTTPD = """
 server.document-root = "{site}"
 server.bind = "127.0.0.1"
@@ -109,12 +114,13 @@ def spent(pid):
 
 
 class Order(NamedTuple):
-    """What the client does."""
+    """What the client does, and how many connections stand idle meanwhile."""
 
     connections: int
     requests: int
     at_once: int
     in_flight: int
+    idle: int = 0
 
     @property
     def all_requests(self):
@@ -133,7 +139,7 @@ class Run(NamedTuple):
 def load(client, port, path, order):
     """Runs the client: its seconds on a processor, seconds by the clock, and the median of a request's time in microseconds."""
     before = os.times()
-    words = [*client, str(port), path, *map(str, order), "2"]
+    words = [*client, str(port), path, *map(str, order[:4]), "2"]
     said = subprocess.run(words, capture_output=True, text=True).stdout.split()
     after = os.times()
     if len(said) != 6 or int(said[0]) != order.all_requests or int(said[1]) != 0:
@@ -141,12 +147,23 @@ def load(client, port, path, order):
     return after.children_user + after.children_system - before.children_user - before.children_system, float(said[3]), int(said[4])
 
 
+@contextlib.contextmanager
+def idle(port, count):
+    """So many connections that are made and ask for nothing."""
+    with contextlib.ExitStack() as stack:
+        for _ in range(count):
+            stack.enter_context(socket.create_connection(("127.0.0.1", port)))
+        time.sleep(0.5 if count else 0)
+        yield
+
+
 def ending(words, client, path, order, port):
     """A server that ends by itself after so many connections: seconds on a processor in all, and what the client showed."""
     child = subprocess.Popen(words, stdin=subprocess.DEVNULL, stdout=subprocess.DEVNULL, stderr=subprocess.DEVNULL)
     if not wait_for(port, child):
         sys.exit(f"serve: {words} doesn't listen")
-    seen = load(client, port, path, order)
+    with idle(port, order.idle):
+        seen = load(client, port, path, order)
     _, status, usage = os.wait4(child.pid, 0)
     child.returncode = status
     if status != 0:
@@ -163,9 +180,9 @@ def shown(seconds, seen, order):
 def own(words_of, client, path, order):
     """A run of a server that ends by itself."""
     port = free_port()
-    little, _ = ending(words_of(port, 1), client, path, Order(1, 1, 1, 1), port)
+    little, _ = ending(words_of(port, 1 + order.idle), client, path, Order(1, 1, 1, 1, order.idle), port)
     port = free_port()
-    much, seen = ending(words_of(port, order.connections), client, path, order, port)
+    much, seen = ending(words_of(port, order.connections + order.idle), client, path, order, port)
     return shown(much - little, seen, order)
 
 
@@ -176,9 +193,10 @@ def other(words, client, port, path, order):
         if not wait_for(port, child):
             return None
         load(client, port, path, Order(4, 2, 4, 1))
-        before = spent(child.pid)
-        seen = load(client, port, path, order)
-        return shown(spent(child.pid) - before, seen, order)
+        with idle(port, order.idle):
+            before = spent(child.pid)
+            seen = load(client, port, path, order)
+            return shown(spent(child.pid) - before, seen, order)
     finally:
         child.send_signal(signal.SIGTERM)
         child.wait()
@@ -232,22 +250,22 @@ def sws(program, pinned, site, shape):
     return lambda port, connections: [*pinned, program, "serve", site, "--port", str(port), "--connections", str(connections), *fixed]
 
 
-def servers(folder, site, program, pinned, client, workers):
-    """What is measured, by name: for each a function that runs it once."""
+def servers(folder, site, given, pinned, client, workers):
+    """What is measured, by name: for each the forms that it is run in, functions that run it once."""
     def net(path, order):
         return own(lambda port, connections: [*pinned, NET, site, str(port), str(connections)], client, path, order)
 
-    def swsd(count):
+    def swsd(count, words):
         def once(path, order):
             port = free_port()
             lanes = ["--lanes", str(2 * count + 2), "--accepting", str(count)]
-            return other([*pinned, SWSD, site, "--listen", f"127.0.0.1:{port}", *lanes], client, port, path, order)
+            return other([*pinned, given.daemon, site, "--listen", f"127.0.0.1:{port}", *lanes, *words], client, port, path, order)
         return once
 
-    def nginx(cache, count):
+    def nginx(sendfile, count, log):
         def once(path, order):
             port = free_port()
-            text = NGINX.format(workers=count, folder=folder, cache=cache, port=port, site=site)
+            text = NGINX.format(workers=count, folder=folder, sendfile=sendfile, log=log, port=port, site=site)
             return other([*pinned, "nginx", "-p", folder, "-c", write(f"{folder}/nginx.conf", text)], client, port, path, order)
         return once
 
@@ -264,53 +282,79 @@ def servers(folder, site, program, pinned, client, workers):
         return once
 
     named = {}
-    for shape in shapes(workers):
-        words = sws(program, pinned, site, shape)
-        named[shape.name] = lambda path, order, words=words: own(words, client, path, order)
-    if os.access(SWSD, os.X_OK):
-        named.update({f"swsd, {count} lanes at a time": swsd(count) for count in workers})
     if os.access(NET, os.X_OK):
-        named["the same sockets without the runtime"] = net
-    if shutil.which("nginx"):
-        named["nginx"] = nginx("", 1)
-        named.update({f"nginx, with its file cache, {count} workers": nginx(CACHE, count) for count in workers})
+        named["the same sockets without the runtime"] = [net]
+    for shape in shapes(workers):
+        words = sws(given.program, pinned, site, shape)
+        named[shape.name] = [lambda path, order, words=words: own(words, client, path, order)]
+    for count in workers:
+        if os.access(given.daemon, os.X_OK):
+            named[f"swsd, {count} lanes at a time"] = [swsd(count, ["--quiet"])]
+            if given.log:
+                named[f"swsd, {count} lanes at a time, with the log"] = [swsd(count, ["--log"])]
+        if shutil.which("nginx"):
+            named[f"nginx, {count} workers"] = [nginx(sendfile, count, "off") for sendfile in ("on", "off")]
+            if given.log:
+                named[f"nginx, {count} workers, with the log"] = [nginx(it, count, f"{folder}/access.log") for it in ("on", "off")]
+        if shutil.which("h2o"):
+            named[f"h2o, {count} threads"] = [h2o(count)]
     if shutil.which("lighttpd"):
-        named["lighttpd"] = lighttpd
-    if shutil.which("h2o"):
-        named.update({f"h2o, {count} threads": h2o(count) for count in workers})
+        named["lighttpd"] = [lighttpd]
     return named
 
 
-def measure(named, given, path, connections):
-    """Prints a row for each server and each number of requests under way."""
+def median_run(runs):
+    """The run whose cost is the median one."""
+    return sorted(runs, key=lambda run: run.server)[len(runs) // 2]
+
+
+def measure(named, given, path, what, order):
+    """Prints a row for each server: its cheaper form, by the median of its runs."""
+    seen = {(name, form): [] for name in named if given.only in name for form in range(len(named[name]))}
+    for _ in range(given.runs):
+        for name, form in seen:
+            once = named[name][form](path, order)
+            if once is not None:
+                seen[name, form].append(once)
+    for name in dict.fromkeys(name for name, _ in seen):
+        medians = [median_run(runs) for (of, _), runs in seen.items() if of == name and runs]
+        if medians:
+            run = min(medians, key=lambda run: run.server)
+            print(f"| {path} | {what} | {name} | {run.server:.1f} | {run.rate:,.0f} | {run.client:.1f} | {run.median} |", flush=True)
+
+
+def orders(given, size):
+    """What the client does for a file of this size, by name."""
+    fewer = 1 if size < 65536 else 8 if size < 1 << 20 else 64
+    connections, requests = max(given.connections // fewer, 1), max(given.requests // max(fewer // 8, 1), 1)
+    at_once = min(given.at_once, connections)
     for in_flight in map(int, given.in_flight.split(",")):
-        order = Order(connections, given.requests, given.at_once, in_flight)
-        seen = {name: [] for name in named if given.only in name}
-        for _ in range(given.runs):
-            for name in seen:
-                once = named[name](path, order)
-                if once is not None:
-                    seen[name].append(once)
-        for name, runs in seen.items():
-            if runs:
-                best = max(runs, key=lambda run: run.rate)
-                least = min(run.server for run in runs)
-                print(f"| {path} | {in_flight} | {name} | {least:.1f} | {best.rate:,.0f} | {best.client:.1f} | {best.median} |", flush=True)
+        yield f"{at_once} clients, {in_flight} under way", Order(connections, requests, at_once, in_flight)
+    if size < 65536 and given.lone:
+        # (a connection of `sws` has 64 answers at most)
+        alone = Order(max(given.lone // 64, 1), 64, 1, 1)
+        yield "a lone client", alone
+        if given.idle:
+            yield f"a lone client beside {given.idle} idle", alone._replace(idle=given.idle)
 
 
 def main():
     words = argparse.ArgumentParser(description="Measures the server beside others.")
-    words.add_argument("--runs", type=int, default=3)
+    words.add_argument("--runs", type=int, default=5)
     words.add_argument("--connections", type=int, default=1024)
     words.add_argument("--requests", type=int, default=64)
     words.add_argument("--at-once", type=int, default=64)
     words.add_argument("--in-flight", default="1,16")
-    words.add_argument("--sizes", default="3,64,1024,65536")
+    words.add_argument("--sizes", default="64,1024,65536,16777216")
     words.add_argument("--workers", default="1,2,4")
     words.add_argument("--server", default="")
     words.add_argument("--client", default="")
     words.add_argument("--only", default="")
+    words.add_argument("--lone", type=int, default=4000)
+    words.add_argument("--idle", type=int, default=900)
+    words.add_argument("--log", action="store_true")
     words.add_argument("--program", default=SWS)
+    words.add_argument("--daemon", default=SWSD)
     words.add_argument("--calls", action="store_true")
     given = words.parse_args()
     os.environ["PATH"] += ":/usr/sbin"
@@ -328,11 +372,11 @@ def main():
         for size in sizes:
             write(os.path.join(site, f"f{size}.txt"), "x" * size)
         workers = [int(count) for count in given.workers.split(",")]
-        named = servers(folder, site, given.program, pinned, client, workers)
-        print("| file | under way | server | us a request | requests a second | client's us | median us |\n|---|---|---|---|---|---|---|")
+        named = servers(folder, site, given, pinned, client, workers)
+        print("| file | clients | server | us a request | requests a second | client's us | median us |\n|---|---|---|---|---|---|---|")
         for size in sizes:
-            connections = max(given.connections // 8, 1) if size >= 65536 else given.connections
-            measure(named, given, f"/f{size}.txt", connections)
+            for what, order in orders(given, size):
+                measure(named, given, f"/f{size}.txt", what, order)
         for shape in shapes(workers) if given.calls else ():
             order = Order(given.connections // 8, given.requests, given.at_once, 1)
             counted = calls(sws(given.program, pinned, site, shape), client, f"/f{sizes[0]}.txt", order)
