@@ -271,9 +271,40 @@ def dates(is_quick):
     yield status == 0 and not faults and unchanged > 0 and len(seen) > 3, f"{number} states of a page: {len(seen)} dates, {unchanged} times unchanged, faults {faults[:3]} ({told})"
 
 
-CASES = [bursts, after_the_stop, dates, tricklers, moving_downloads, held_lanes, unread_files, bytes_in_turn]
+# A target, and what its answer's status line and location are to be where the site has docs/, with an index, bare/, without, and 404.html.
+REDIRECTS = [
+    (b"/docs", b"301", b"/docs/"), (b"/docs?//evil.example", b"301", b"/docs/"), (b"http://evil.example/docs", b"301", b"/docs/"),
+    (b"/a%20b", b"301", b"/a%20b/"), (b"/%2e%2e/docs", b"301", b"/docs/"), (b"/docs/", b"200", None), (b"/bare", b"404", None),
+    (b"//docs", b"404", None), (b"/.//docs", b"404", None), (b"/%2fdocs", b"404", None), (b"/%5cdocs", b"404", None),
+    (b"/docs%0d%0aX:1", b"404", None), (b"http://evil.example//docs", b"404", None), (b"/.hidden", b"404", None), (b"/404.html", b"200", None),
+]
 
-QUICK = [bursts, after_the_stop, dates, tricklers, unread_files]
+
+def redirects(_):
+    """Targets that name folders, some of them made so that a redirect to the target would lead to another host: the location is a folder's own path or
+    none, and what isn't there is told by the site's page."""
+    wrong = []
+    with site() as folder:
+        for name in ("docs", "a b", "bare", ".hidden"):
+            os.makedirs(os.path.join(folder, name))
+        for name in ("docs/index.html", "a b/index.html", ".hidden/index.html", "bare/x.txt"):
+            with open(os.path.join(folder, name), "wb") as file:
+                file.write(b"here")
+        put(folder, "404.html", b"gone")
+        with Server(folder) as server:
+            for target, status, location in REDIRECTS:
+                answer = server.ask(HEAD.replace(b"/a.txt", target))
+                named = re.search(rb"\r\nLocation: ([^\r]*)", answer)
+                is_told = answer.startswith(b"HTTP/1.1 " + status) and (named[1] if named else None) == location
+                if not is_told or (status == b"404" and not answer.endswith(b"\r\n\r\ngone")):
+                    wrong.append((target, answer[:60]))
+            status, told = server.end()
+    yield status == 0 and not wrong, f"{len(REDIRECTS)} targets, otherwise answered: {wrong[:3]} ({told})"
+
+
+CASES = [bursts, after_the_stop, dates, tricklers, moving_downloads, held_lanes, unread_files, bytes_in_turn, redirects]
+
+QUICK = [bursts, after_the_stop, dates, tricklers, unread_files, redirects]
 
 
 def run(only="", is_quick=False):
