@@ -20,13 +20,16 @@ import re
 import sys
 
 TOP = os.path.dirname(os.path.dirname(os.path.realpath(__file__)))
-CODE = f"{TOP}/crates/mely_fleet/src"
+CODE = f"{TOP}/crates"
 MODELS = f"{TOP}/models"
 
 # The files whose functions are all tied, and single functions of others.
 WHOLE = ["bell.rt", "hint.rt"]
 SINGLE = {"working.rt": ["work", "pause"], "fleet.rt": ["register", "finish", "post", "push", "retell"],
           "chain_calls.rt": ["push_at", "pop_at", "retell_at", "pick_at"]}
+
+# The crates that they stand in, where that isn't the fleet's.
+CRATES = {"bell.rt": "mely_bell", "hint.rt": "mely_bell", "chain_calls.rt": "mely_kept_chain"}
 
 # What makes a line of the code one that is tied, and one of the models.
 STEP = re.compile(r"Ordering::SeqCst|\.lock\(rt\)|wait_while|notify_|yield_now|self\.bell\.|hint\.|\bstore\(")
@@ -117,7 +120,7 @@ class Order:
 
 def main():
     faults = []
-    code = {name: functions(open(f"{CODE}/{name}").read()) for name in [*WHOLE, *SINGLE]}
+    code = {name: functions(open(f"{CODE}/{CRATES.get(name, 'mely_fleet')}/src/{name}").read()) for name in [*WHOLE, *SINGLE]}
     model = {name: open(f"{MODELS}/{name}").read() for name in ("bell.pml", "fleet.pml")}
     wrong = set(re.findall(r"^ \*   ([A-Z_]+) ", model["bell.pml"].split("Wrong bells")[1].split("*/")[0], re.M))
     model = {name: places(right_bell(text, wrong)) for name, text in model.items()}

@@ -1,4 +1,4 @@
-/* The bell of a fleet (crates/mely_fleet/src/bell.rt and working.rt), step by step.
+/* The bell of a fleet (crates/mely_bell/src/bell.rt and working.rt), step by step.
  *
  * Each read or write of a word that several threads use is a step of its own, in the order of the
  * code; all are sequentially consistent, as in the code. What a waker does under the mutex of a bed

@@ -8,8 +8,9 @@ mod rounds;
 
 use std::process::ExitCode;
 use std::{env, io};
+use sws_files::FileFolder;
 use sws_link::{Folder, Opened, World};
-use sws_net::{FileFolder, TcpWorld};
+use sws_net::TcpWorld;
 use sws_site::Site;
 
 /// The folder, the port and the number of connections.

@@ -9,18 +9,18 @@ use Rattle.mely_lock.specs.declared.pass.Pass.{Pass}
 use Rattle.mely_weave.specs.Side.{shard_of}
 use Rattle.mely_lock.specs.declared.ticketed.Ticketed.{Ticketed}
 use Rattle.mely_lock.specs.Words.{initial_value, front}
-use Rattle.mely_fleet.specs.declared.chain_note.ChainNote.{ChainNote}
+use Rattle.mely_kept_chain.specs.declared.chain_note.ChainNote.{ChainNote}
 use Rattle.mely_fleet.specs.declared.fleet.FleetOf.{FleetOf}
-use Rattle.mely_fleet.specs.declared.kept_chain.ChainFrame.{ChainFrame}
+use Rattle.mely_kept_chain.specs.declared.kept_chain.ChainFrame.{ChainFrame}
 use Rattle.mely_kept.specs.declared.kept_shard.ShardFrame.{ShardFrame}
 use Rattle.mely_fleet.specs.declared.passes.PassesOf.{PassesOf}
 use Rattle.mely_kept.specs.Calls.{IsSeen}
 use Rattle.mely_fleet.specs.Calls.{SeesAt}
-use Rattle.mely_fleet.specs.Chains.{IsOnChain, ReachesChain}
+use Rattle.mely_kept_chain.specs.Chains.{IsOnChain, ReachesChain}
 use Rattle.mely_fleet.specs.Fleets.{ArePasses, chain_frame_for, frame_for, frame_in, given_in, givens_in}
 use Rattle.mely_kept.specs.Frames.{IsColourOf, given_at}
-use Rattle.mely_fleet.specs.Frames.{chain_frame}
-use Rattle.mely_fleet.specs.KeptChain.{KeptChainState}
+use Rattle.mely_kept_chain.specs.Frames.{chain_frame}
+use Rattle.mely_kept_chain.specs.KeptChain.{KeptChainState}
 use Rattle.mely_kept.specs.Passing.{HasLeft, MayEnter}
 use Rattle.mely_fleet.specs.Rows.{ArePassesOf, IsPassAt, fronts}
 use Rattle.mely_fleet.proofs.Rows.{colour_of_shard, row_pass, row_frame, row_set, pass_low, reaches_row, sees_row}

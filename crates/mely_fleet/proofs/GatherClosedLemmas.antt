@@ -22,15 +22,15 @@ use Rattle.mely_weave.specs.Gathering.{MayGatherShard, MayGatherChain}
 use Rattle.mely_weave.specs.Side.{shard_of}
 use Rattle.mely_kept.specs.declared.kept_shard.ShardFrame.{ShardFrame}
 use Rattle.mely_fleet.specs.declared.passes.PassesOf.{PassesOf}
-use Rattle.mely_fleet.specs.declared.kept_chain.ChainFrame.{ChainFrame}
+use Rattle.mely_kept_chain.specs.declared.kept_chain.ChainFrame.{ChainFrame}
 use Rattle.mely_fleet.specs.Calls.{front_in, front_for}
 use Rattle.mely_fleet.specs.Closed.{IsClosed, IsTakenOut, IsColumn, AreColumns, AreAllPasses, IsClosedOver}
 use Rattle.mely_fleet.specs.Closing.{HasFinishedOf}
 use Rattle.mely_fleet.specs.Fleets.{frame_for, chain_frame_for}
-use Rattle.mely_fleet.specs.declared.chain_note.ChainNote.{ChainNote}
+use Rattle.mely_kept_chain.specs.declared.chain_note.ChainNote.{ChainNote}
 use Rattle.mely_kept.specs.Frames.{shard_frame}
-use Rattle.mely_fleet.specs.Frames.{chain_frame, numbers_of}
-use Rattle.mely_fleet.specs.KeptChain.{KeptChainState}
+use Rattle.mely_kept_chain.specs.Frames.{chain_frame, numbers_of}
+use Rattle.mely_kept_chain.specs.KeptChain.{KeptChainState}
 use Rattle.mely_kept.specs.KeptShard.{KeptShardState}
 use Rattle.mely_fleet.specs.Rows.{ArePassesOf, HavePasses, fronts}
 use Rattle.mely_history.specs.declared.entry.Entry.TheVariants.{Take}

@@ -25,13 +25,13 @@ use Rattle.mely_weave.specs.Making.{AreInitial, empty_chain}
 use Rattle.mely_weave.proofs.Wholes.GatherLemmas.{get_there}
 use Rattle.std.specs.List.{AllByRecursion}
 use Rattle.mely_kept.specs.declared.kept_shard.ShardFrame.{ShardFrame}
-use Rattle.mely_fleet.specs.declared.kept_chain.ChainFrame.{ChainFrame}
+use Rattle.mely_kept_chain.specs.declared.kept_chain.ChainFrame.{ChainFrame}
 use Rattle.mely_fleet.specs.Fleets.{frame_for, chain_frame_for, first_of_some}
 use Rattle.mely_fleet.specs.Rows.{IsPassAt, AreFramed, fronts}
 use Rattle.mely_fleet.specs.Dealing.{IsInitialRow}
 use Rattle.mely_kept.specs.Frames.{HaveFrame, shard_frame}
-use Rattle.mely_fleet.specs.Frames.{chain_frame, numbers_of}
-use Rattle.mely_fleet.specs.KeptChain.{KeptChainState}
+use Rattle.mely_kept_chain.specs.Frames.{chain_frame, numbers_of}
+use Rattle.mely_kept_chain.specs.KeptChain.{KeptChainState}
 use Rattle.mely_kept.specs.KeptShard.{KeptShardState}
 
 givens_first : {S : Type 0} (P : Type 0) (states : List S) → map (λ (lane : ColourState S P). lane.given) (map (λ state. initial_lane {S = S} {P = P} state) states) ≡ states

@@ -48,7 +48,7 @@ use Rattle.mely_weave.specs.Side.{shard_of}
 use Rattle.mely_kept.specs.Calls.{RegistersAt, TakesAt, FinishesAt, StealsAt, LooksAt, IsSeen}
 use Rattle.mely_note.specs.Notes.{snapshot_of}
 use Rattle.mely_fleet.specs.Calls.{SeesAt, front_in, front_for}
-use Rattle.mely_fleet.specs.Chains.{DeliversAt, ReachesChain, PushesAt, PopsAt, RetellsAt, PicksAt}
+use Rattle.mely_kept_chain.specs.Chains.{DeliversAt, ReachesChain, PushesAt, PopsAt, RetellsAt, PicksAt}
 use Rattle.mely_fleet.specs.Fleets.{chain_frame_for}
 use Rattle.mely_fleet.specs.Work.{Standpoint, words, SeesMore, HasFinishedBut, HasFinished, WorksOn}
 

@@ -9,16 +9,16 @@ use Rattle.mely_weave.specs.Side.{shard_of}
 use Rattle.mely_fleet.specs.declared.fleet.FleetOf.{FleetOf}
 use Rattle.mely_fleet.specs.declared.passes.PassesOf.{PassesOf}
 use Rattle.mely_kept.specs.declared.kept_shard.ShardFrame.{ShardFrame}
-use Rattle.mely_fleet.specs.declared.kept_chain.ChainFrame.{ChainFrame}
-use Rattle.mely_fleet.specs.Frames.{chain_frame}
+use Rattle.mely_kept_chain.specs.declared.kept_chain.ChainFrame.{ChainFrame}
+use Rattle.mely_kept_chain.specs.Frames.{chain_frame}
 use Rattle.mely_lock.specs.Words.{initial_value}
 use Rattle.mely_fleet.specs.Rows.{ArePassesOf, AreFramed, fronts}
 use Rattle.mely_event.specs.declared.colour.Colour.{Colour}
 use Rattle.mely_event.specs.declared.event.Event.{Event}
 use Rattle.mely_history.specs.Owing.{IsOwed}
 use Rattle.mely_fleet.specs.Calls.{SeesAt, front_for}
-use Rattle.mely_fleet.specs.declared.chain_note.ChainNote.{ChainNote}
-use Rattle.mely_fleet.specs.Chains.{ReachesChain, DeliversAt}
+use Rattle.mely_kept_chain.specs.declared.chain_note.ChainNote.{ChainNote}
+use Rattle.mely_kept_chain.specs.Chains.{ReachesChain, DeliversAt}
 use Rattle.mely_worker.specs.declared.delivery.Delivery.{Delivery}
 
 -- the first of some things

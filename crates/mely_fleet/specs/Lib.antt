@@ -1,7 +1,4 @@
-pub mod KeptChain
-pub mod Frames
 pub mod Calls
-pub mod Chains
 pub mod Rows
 pub mod Fleets
 pub mod Posted

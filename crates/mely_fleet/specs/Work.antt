@@ -25,8 +25,8 @@ use Rattle.mely_kept.specs.declared.kept_shard.ShardFrame.{ShardFrame}
 use Rattle.mely_kept.specs.Calls.{RegistersAt, TakesAt, FinishesAt, StealsAt}
 use Rattle.mely_fleet.specs.Calls.{SeesAt, front_in, front_for}
 use Rattle.mely_fleet.specs.Rows.{fronts}
-use Rattle.mely_fleet.specs.declared.chain_note.ChainNote.{ChainNote}
-use Rattle.mely_fleet.specs.Chains.{ReachesChain, PushesAt, PopsAt, RetellsAt, PicksAt}
+use Rattle.mely_kept_chain.specs.declared.chain_note.ChainNote.{ChainNote}
+use Rattle.mely_kept_chain.specs.Chains.{ReachesChain, PushesAt, PopsAt, RetellsAt, PicksAt}
 use Rattle.mely_fleet.specs.Fleets.{chain_frame_for, frame_in, given_in}
 use Rattle.mely_kept.specs.Frames.{shard_frame}
 use Rattle.mely_kept.specs.KeptShard.{KeptShardState}

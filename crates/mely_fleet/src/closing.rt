@@ -2,11 +2,11 @@
 ghost use Rattle.std.specs.Prelude.{◌≡◌, ◌≤◌, ◌<◌, ◌+◌, ◌++◌, ◌∷◌, [], ℕ, Some, length, map, slice_get, slice_index_or, vec_len, vec_capacity};
 ghost use Rattle.mely_fleet.specs.Closed.{AreAllPasses, AreColumns, AreFilled, IsClosed, IsTakenOut};
 
-use crate::kept_chain::KeptChain;
 use crate::passes::PassesOf;
 use mely_core::CoreQueue;
 use mely_event::{Fits, Kept, Trail};
 use mely_kept::KeptShard;
+use mely_kept_chain::KeptChain;
 use mely_lock::{Pass, Ticketed};
 use mely_shard::Shard;
 

@@ -3,14 +3,13 @@ ghost use Rattle.std.specs.Prelude.{◌≡◌, ◌<◌, ◌≤◌, ◌↔◌, []
 ghost use Rattle.mely_history.specs.Setup.{shape_of};
 ghost use Rattle.mely_fleet.specs.Rows.{HavePasses};
 
-use crate::bell::Bell;
-use crate::chain_calls::{pick_at, pop_at, push_at, retell_at};
-use crate::kept_chain::KeptChain;
 use crate::passes::Passes;
 use crate::side::Side;
+use mely_bell::Bell;
 use mely_event::{Colour, Event, Fits, Kept, Mark, Memory, There, Trail, Unregistered};
 use mely_history::{After, NoSteal, NoTake, Registered, Setup, Stolen};
 use mely_kept::{KeptShard, finish_at, look_at, register_at, reserve_at, steal_at, take_at};
+use mely_kept_chain::{KeptChain, pick_at, pop_at, push_at, retell_at};
 use mely_lock::Ticketed;
 use mely_note::Stamp;
 use mely_queue::Turn;
@@ -55,7 +54,7 @@ impl<S: Fits<P> + Drop, P: Drop> FleetOf<KeptShard<S, P>> {
     ghost use Rattle.mely_weave.specs.Side.{shard_of};
     ghost use Rattle.mely_kept.specs.Calls.{RegistersAt, TakesAt, FinishesAt, StealsAt, LooksAt};
     ghost use Rattle.mely_fleet.specs.Calls.{front_in};
-    ghost use Rattle.mely_fleet.specs.Chains.{PushesAt, PopsAt, RetellsAt, PicksAt};
+    ghost use Rattle.mely_kept_chain.specs.Chains.{PushesAt, PopsAt, RetellsAt, PicksAt};
     ghost use Rattle.mely_kept.specs.Frames.{shard_frame};
     ghost use Rattle.mely_fleet.specs.Rows.{fronts};
     ghost use Rattle.mely_fleet.specs.Fleets.{ArePasses, frame_in, given_in, KeepChains, KeepShards, ReachesOn, SeesOn, owed_by};

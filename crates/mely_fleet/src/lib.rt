@@ -30,19 +30,13 @@
 //! Where a mark lies in a running fleet isn't promised, nor that `work` returns, that two threads
 //! run at once, or any order between shards but that of the stamps. The weave that
 //! [`close`](FleetOf::close) gives stands well again. That no worker is left asleep while there is
-//! work for it is argued in `BELL.md` beside this crate, model-checked and stress-tested, not
-//! proved.
+//! work for it is argued in `BELL.md` of `mely_bell`, model-checked and stress-tested, not proved.
 #![tactic(auto)]
 
-mod bell;
-mod chain_calls;
-mod chain_note;
 mod close;
 mod closing;
 mod dealing;
 mod fleet;
-mod hint;
-mod kept_chain;
 mod opening;
 mod passes;
 mod room;
@@ -50,10 +44,9 @@ mod seat;
 mod side;
 mod working;
 
-pub use chain_note::ChainNote;
 pub use fleet::{Fleet, FleetOf};
-pub use kept_chain::{ChainFrame, KeptChain};
 pub use mely_kept::{KeptShard, ShardFrame};
+pub use mely_kept_chain::{ChainFrame, ChainNote, KeptChain};
 pub use passes::{Passes, PassesOf};
 pub use room::{Room, RoomOf};
 pub use seat::{Seat, SeatOf};

@@ -6,15 +6,15 @@ ghost use Rattle.mely_weave.specs.Dealing.{AtEach};
 ghost use Rattle.mely_kept.specs.Frames.{HaveFrame};
 ghost use Rattle.mely_note.specs.ShowsNotes.{IsUntouched};
 
-use crate::bell::Bell;
 use crate::dealing::lock_all;
 use crate::fleet::{Fleet, FleetOf};
-use crate::kept_chain::KeptChain;
 use crate::passes::{Passes, PassesOf};
+use mely_bell::Bell;
 use mely_core::CoreQueue;
 use mely_event::{Fits, Kept, Memory, Trail};
 use mely_history::Setup;
 use mely_kept::KeptShard;
+use mely_kept_chain::KeptChain;
 use mely_lock::Pass;
 use mely_shard::Shard;
 use mely_weave::{chains_of, deal, shards_of};

@@ -3,11 +3,11 @@ ghost use Rattle.std.specs.Prelude.{◌≡◌, ◌≤◌, [], IfOk, length, vec_
 ghost use Rattle.mely_history.specs.Setup.{shape_of};
 ghost use Rattle.mely_fleet.specs.Closed.{AreFilled};
 
-use crate::kept_chain::KeptChain;
 use mely_core::CoreQueue;
 use mely_event::{Fits, Kept, Memory};
 use mely_history::Setup;
 use mely_kept::KeptShard;
+use mely_kept_chain::KeptChain;
 use mely_lock::Pass;
 use mely_shard::Shard;
 use mely_weave::WeaveRoom;

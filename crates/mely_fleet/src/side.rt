@@ -3,7 +3,7 @@ ghost use Rattle.std.specs.Prelude.{◌≡◌, MatchResult};
 ghost use Rattle.mely_worker.specs.Access.{Stays, FitsSetup, IsSpent, StillOwes, NamesCore, GivesBack};
 ghost use Rattle.mely_weave.specs.Side.{shard_of};
 ghost use Rattle.mely_kept.specs.Calls.{RegistersAt, TakesAt, FinishesAt, StealsAt};
-ghost use Rattle.mely_fleet.specs.Chains.{PushesAt, PopsAt, RetellsAt, PicksAt};
+ghost use Rattle.mely_kept_chain.specs.Chains.{PushesAt, PopsAt, RetellsAt, PicksAt};
 ghost use Rattle.mely_fleet.specs.Rows.{fronts};
 ghost use Rattle.mely_kept.specs.Frames.{shard_frame};
 ghost use Rattle.mely_fleet.specs.Fleets.{ArePasses, frame_in, given_in, ReachesOn, SeesOn, owed_by};

@@ -9,10 +9,10 @@ ghost use Rattle.mely_worker.specs.Step.{Steps};
 ghost use Rattle.mely_fleet.specs.Work.{standpoint, words, HasLooked, MakesOn, SeesMore, SeesAllDrained, HasFinishedBut};
 ghost use Rattle.mely_fleet.specs.Working.{MayWorkOn, HasWorked, KeepsLosses};
 
-use crate::bell::Watch;
 use crate::fleet::FleetOf;
 use crate::passes::Passes;
 use crate::side::Side;
+use mely_bell::Watch;
 use mely_event::{Fits, Kept, Trail};
 use mely_kept::KeptShard;
 use mely_worker::{App, Gate, Made, Worker};

@@ -13,7 +13,7 @@ use Rattle.mely_fleet.specs.Closed.{IsClosedShard, IsLeftByOthers}
 use Rattle.mely_fleet.specs.Fleets.{frame_in, givens_in, frame_for, chain_frame_for}
 use Rattle.mely_fleet.specs.Rows.{AreFramed}
 use Rattle.mely_kept.specs.Frames.{shard_frame}
-use Rattle.mely_fleet.specs.Frames.{chain_frame}
+use Rattle.mely_kept_chain.specs.Frames.{chain_frame}
 use Rattle.mely_fleet.proofs.GatherClosedLemmas.{AllThere, all_there, columns_have_all, owner_of_pass, finished_at, shard_gathers, givens_kept, chain_gathers, closed_over, left_by_others}
 use Rattle.mely_fleet.proofs.close.FleetOf+KeptShard+S+P.close.Goals as goal
 use Rattle.mely_fleet.proofs.close.FleetOf+KeptShard+S+P.close.Goals.{After-chains_out-chains}

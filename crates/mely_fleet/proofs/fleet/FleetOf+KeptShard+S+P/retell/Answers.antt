@@ -1,6 +1,6 @@
 use Rattle.std.proofs.Common.{◌<◌, sym, ap, subst}
-use Rattle.mely_fleet.specs.declared.kept_chain.ChainFrame.{ChainFrame}
-use Rattle.mely_fleet.specs.Chains.{RetellsAt}
+use Rattle.mely_kept_chain.specs.declared.kept_chain.ChainFrame.{ChainFrame}
+use Rattle.mely_kept_chain.specs.Chains.{RetellsAt}
 use Rattle.mely_kept.specs.Frames.{shard_frame}
 use Rattle.mely_fleet.proofs.CallLemmas.{may_enter, numbers_are, are_still, reaches}
 use Rattle.mely_fleet.proofs.fleet.FleetOf+KeptShard+S+P.retell.Goals as goal

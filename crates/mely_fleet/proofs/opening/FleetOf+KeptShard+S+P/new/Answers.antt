@@ -6,9 +6,9 @@ use Rattle.mely_weave.proofs.Wholes.GatherLemmas.{get_there}
 use Rattle.mely_weave.proofs.Wholes.MakeLemmas.{first_piles}
 use Rattle.mely_core.specs.CoreQueue.{empty_core}
 use Rattle.mely_lock.specs.Words.{initial_value}
-use Rattle.mely_fleet.specs.declared.kept_chain.ChainFrame.{ChainFrame}
+use Rattle.mely_kept_chain.specs.declared.kept_chain.ChainFrame.{ChainFrame}
 use Rattle.mely_kept.specs.Frames.{HaveFrame, shard_frame}
-use Rattle.mely_fleet.specs.Frames.{chain_frame, numbers_of}
+use Rattle.mely_kept_chain.specs.Frames.{chain_frame, numbers_of}
 use Rattle.mely_fleet.specs.Rows.{ArePassesOf, AreFramed}
 use Rattle.mely_fleet.specs.Fleets.{frame_for}
 use Rattle.mely_fleet.specs.Dealing.{IsInitialRow}

@@ -1,12 +1,12 @@
 //! One call on the chain behind a lock. What it leaves there is hinted at before the lock is left.
 ghost use Rattle.std.specs.Prelude.{◌<◌, ◌+◌, ◌^◌, IfSome, length};
 ghost use Rattle.mely_lock.specs.Words.{initial_value, front};
-ghost use Rattle.mely_fleet.specs.Chains.{IsOnChain, PushesAt, PopsAt, RetellsAt, PicksAt};
+ghost use Rattle.mely_kept_chain.specs.Chains.{IsOnChain, PushesAt, PopsAt, RetellsAt, PicksAt};
 ghost use Rattle.mely_kept.specs.Passing.{MayEnter, HasLeft};
-ghost use Rattle.mely_fleet.specs.Frames.{chain_frame};
+ghost use Rattle.mely_kept_chain.specs.Frames.{chain_frame};
 
-use crate::hint::Hint;
 use crate::kept_chain::KeptChain;
+use mely_bell::Hint;
 use mely_event::{Colour, Kept, Mark, There};
 use mely_lock::{Pass, Ticketed};
 use std::sync::Wait;
@@ -22,7 +22,7 @@ fn wait_for_room<R: Wait>(rt: &R, chain: &KeptChain)
 
 /// Puts a mark at the back; whether thieves may take it there. Whether the chain has other marks is
 /// told beside the answer.
-pub(crate) fn push_at<R: Wait>(
+pub fn push_at<R: Wait>(
     rt: &R,
     hint: &Hint,
     lock: &Ticketed<KeptChain>,
@@ -53,7 +53,7 @@ pub(crate) fn push_at<R: Wait>(
 }
 
 /// Takes the mark at the front of a chain, under its lock.
-pub(crate) fn pop_at<R: Wait>(
+pub fn pop_at<R: Wait>(
     rt: &R,
     hint: &Hint,
     lock: &Ticketed<KeptChain>,
@@ -75,7 +75,7 @@ pub(crate) fn pop_at<R: Wait>(
 
 /// Tells the mark of a colour in a chain what its events are worth, under its lock; whether thieves
 /// may take it at that. Whether there was one.
-pub(crate) fn retell_at<R: Wait>(
+pub fn retell_at<R: Wait>(
     rt: &R,
     hint: &Hint,
     lock: &Ticketed<KeptChain>,
@@ -109,7 +109,7 @@ pub(crate) fn retell_at<R: Wait>(
 
 /// Takes the first mark of the highest class that has one off a chain, under its lock; nothing
 /// where thieves may have none.
-pub(crate) fn pick_at<R: Wait>(
+pub fn pick_at<R: Wait>(
     rt: &R,
     hint: &Hint,
     lock: &Ticketed<KeptChain>,

@@ -4,10 +4,10 @@ use Rattle.mely_event.specs.declared.mark.Mark.{Mark}
 use Rattle.mely_steal.specs.Marks.{without, after_replacement}
 use Rattle.mely_steal.specs.StealQueue.{after_entry, after_mark_change}
 use Rattle.mely_core.specs.CoreQueue.{CoreQueueState, empty_core, told_of}
-use Rattle.mely_fleet.specs.declared.chain_note.ChainNote.{ChainNote}
-use Rattle.mely_fleet.specs.declared.chain_note.ChainNote.TheVariants.{Pushed, Popped, Retold, Picked}
-use Rattle.mely_fleet.specs.declared.kept_chain.ChainFrame.{ChainFrame}
-use Rattle.mely_fleet.specs.KeptChain.{KeptChainState}
+use Rattle.mely_kept_chain.specs.declared.chain_note.ChainNote.{ChainNote}
+use Rattle.mely_kept_chain.specs.declared.chain_note.ChainNote.TheVariants.{Pushed, Popped, Retold, Picked}
+use Rattle.mely_kept_chain.specs.declared.kept_chain.ChainFrame.{ChainFrame}
+use Rattle.mely_kept_chain.specs.KeptChain.{KeptChainState}
 
 -- the numbers with which a chain was made
 abbrev pub numbers_of : CoreQueueState → ChainFrame

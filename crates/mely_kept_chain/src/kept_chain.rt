@@ -32,8 +32,8 @@ pub struct KeptChain {
 
 impl Model for KeptChain {
     ghost use Rattle.std.specs.Prelude.{◌≡◌, length};
-    ghost use Rattle.mely_fleet.specs.Frames.{chain_after, numbers_of};
-    ghost use Rattle.mely_fleet.specs.KeptChain.{KeptChainState};
+    ghost use Rattle.mely_kept_chain.specs.Frames.{chain_after, numbers_of};
+    ghost use Rattle.mely_kept_chain.specs.KeptChain.{KeptChainState};
 
     ghost Value = { KeptChainState };
 
@@ -44,7 +44,7 @@ impl Model for KeptChain {
 }
 
 impl Kept for KeptChain {
-    ghost use Rattle.mely_fleet.specs.Frames.{chain_frame};
+    ghost use Rattle.mely_kept_chain.specs.Frames.{chain_frame};
 
     type Note = (u16, ChainNote);
 
@@ -64,15 +64,15 @@ impl Kept for KeptChain {
 impl KeptChain {
     ghost use Rattle.std.specs.Prelude.{◌+◌, ◌^◌, ◌↔◌, [], IfOk, IsTrue, is_some, length, slice_get};
     ghost use Rattle.mely_core.specs.CoreQueue.{empty_core};
-    ghost use Rattle.mely_fleet.specs.Chains.{PushesAt, PopsAt, RetellsAt, PicksAt};
-    ghost use Rattle.mely_fleet.specs.Frames.{chain_frame};
+    ghost use Rattle.mely_kept_chain.specs.Chains.{PushesAt, PopsAt, RetellsAt, PicksAt};
+    ghost use Rattle.mely_kept_chain.specs.Frames.{chain_frame};
 
     /// An empty chain for its lock.
     ///
     /// # Errors
     ///
     /// There was no memory: the chain is dropped.
-    pub(crate) fn new(alloc: Global, queue: CoreQueue) -> Result<KeptChain, Memory>
+    pub fn new(alloc: Global, queue: CoreQueue) -> Result<KeptChain, Memory>
         requires { queue ≡ empty_core queue.colours queue.cost queue.pinned }
         ensures { IfOk result (λ kept. kept ≡ record { has = queue; changes = [] }) }
     {
@@ -84,7 +84,7 @@ impl KeptChain {
     }
 
     /// The chain alone, once its lock is closed: its changes were for contracts.
-    pub(crate) fn into_queue(self) -> CoreQueue
+    pub fn into_queue(self) -> CoreQueue
         ensures { result ≡ self.has }
     {
         let KeptChain {
@@ -96,7 +96,7 @@ impl KeptChain {
     }
 
     /// Whether its history is as long as one can be counted.
-    pub(crate) fn is_full(&self) -> bool
+    pub fn is_full(&self) -> bool
         ensures full { IsTrue result ↔ (length self.now.changes + 1 ≡ 2 ^ 64) }
         ensures counted { length self.now.changes < 2 ^ 64 }
     {
@@ -104,7 +104,7 @@ impl KeptChain {
     }
 
     /// Puts a mark at the back, unless its colour has one there already, which is no change.
-    pub(crate) fn push(&mut self, mark: Mark, by: u16) -> Result<(), There>
+    pub fn push(&mut self, mark: Mark, by: u16) -> Result<(), There>
         requires colour { mark.colour.0 < self.old.has.colours }
         requires room { length self.old.changes + 1 < 2 ^ 64 }
         ensures frame { chain_frame self.new ≡ chain_frame self.old }
@@ -118,21 +118,21 @@ impl KeptChain {
     }
 
     /// Whether there is more than one mark.
-    pub(crate) fn is_crowded(&self) -> bool
+    pub fn is_crowded(&self) -> bool
         ensures { result ≡ is_some (slice_get self.now.has.chain 1) }
     {
         self.queue.at(1).is_some()
     }
 
     /// Whether there is no mark.
-    pub(crate) fn is_empty(&self) -> bool
+    pub fn is_empty(&self) -> bool
         ensures { IsTrue result ↔ (self.now.has.chain ≡ []) }
     {
         self.queue.is_empty()
     }
 
     /// Takes the mark at the front; nothing, and no change, where the chain is empty.
-    pub(crate) fn pop(&mut self, by: u16) -> Option<Mark>
+    pub fn pop(&mut self, by: u16) -> Option<Mark>
         requires room { length self.old.changes + 1 < 2 ^ 64 }
         ensures frame { chain_frame self.new ≡ chain_frame self.old }
         ensures mark { IfSome result (λ mark. mark.colour.0 < self.old.has.colours) }
@@ -146,7 +146,7 @@ impl KeptChain {
 
     /// Tells the mark of a colour how many of its events were begun and what they are worth. It is
     /// false, and no change, where the colour has no mark in the chain.
-    pub(crate) fn retell(&mut self, colour: Colour, started: u64, worth: u128, by: u16) -> bool
+    pub fn retell(&mut self, colour: Colour, started: u64, worth: u128, by: u16) -> bool
         requires colour { colour.0 < self.old.has.colours }
         requires room { length self.old.changes + 1 < 2 ^ 64 }
         ensures frame { chain_frame self.new ≡ chain_frame self.old }
@@ -164,7 +164,7 @@ impl KeptChain {
 
     /// Takes the first mark of the highest class that has one; nothing, and no change,
     /// where thieves may have none.
-    pub(crate) fn pick(&mut self, by: u16) -> Option<Mark>
+    pub fn pick(&mut self, by: u16) -> Option<Mark>
         requires room { length self.old.changes + 1 < 2 ^ 64 }
         ensures frame { chain_frame self.new ≡ chain_frame self.old }
         ensures mark { IfSome result (λ mark. mark.colour.0 < self.old.has.colours) }

@@ -9,10 +9,10 @@ use Rattle.mely_core.specs.CoreQueue.{told_of}
 use Rattle.mely_lock.specs.Seen.{OthersSince}
 use Rattle.mely_worker.specs.declared.delivery.Delivery.{Delivery}
 use Rattle.mely_worker.specs.declared.delivery.Delivery.TheVariants.{Nothing, PushMark, Report}
-use Rattle.mely_fleet.specs.declared.chain_note.ChainNote.{ChainNote}
-use Rattle.mely_fleet.specs.declared.chain_note.ChainNote.TheVariants.{Pushed, Popped, Retold, Picked}
-use Rattle.mely_fleet.specs.declared.kept_chain.ChainFrame.{ChainFrame}
-use Rattle.mely_fleet.specs.Frames.{chain_after}
+use Rattle.mely_kept_chain.specs.declared.chain_note.ChainNote.{ChainNote}
+use Rattle.mely_kept_chain.specs.declared.chain_note.ChainNote.TheVariants.{Pushed, Popped, Retold, Picked}
+use Rattle.mely_kept_chain.specs.declared.kept_chain.ChainFrame.{ChainFrame}
+use Rattle.mely_kept_chain.specs.Frames.{chain_after}
 
 -- a push of the mark by the pass n: refused exactly where the chain has a mark of its colour
 abbrev pub PushesAt : ChainFrame → ℕ → Mark → Result (Unit {0}) There → List (ℕ × ChainNote)

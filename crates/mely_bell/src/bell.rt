@@ -62,7 +62,7 @@ struct Bed {
 
 /// What a worker remembers of its hunts.
 #[derive(Drop)]
-pub(crate) struct Watch {
+pub struct Watch {
     /// How many looks at chains or at their words in a row found nothing, and whether the last step
     /// was a look at the worker's own chain that found nothing.
     misses: u32,
@@ -91,7 +91,7 @@ pub(crate) struct Watch {
 
 impl Watch {
     /// What a worker remembers that begins: it has looked nowhere.
-    pub(crate) fn new() -> Watch {
+    pub fn new() -> Watch {
         Watch {
             misses: 0,
             is_home: false,
@@ -107,7 +107,7 @@ impl Watch {
 
     /// Whether a worker that has looked for long has just found nothing in its own chain. Between
     /// two such ends it looks there and at each victim's chain, however many victims it has.
-    pub(crate) fn is_hunted(&self) -> bool {
+    pub fn is_hunted(&self) -> bool {
         self.is_home && self.misses >= LOOKS
     }
 
@@ -150,7 +150,7 @@ impl Watch {
 /// one word or two more, which are written only where a worker begins or ends to search, goes to
 /// sleep or is woken.
 #[derive(Drop)]
-pub(crate) struct Bell {
+pub struct Bell {
     stopped: AtomicBool,
 
     /// How many workers began, from when nobody was at work, and how many of them still are.
@@ -186,7 +186,7 @@ pub(crate) struct Bell {
 
 impl Bell {
     /// A bell for so many cores.
-    pub(crate) fn new(alloc: Global, cores: u16) -> Result<Bell, Memory> {
+    pub fn new(alloc: Global, cores: u16) -> Result<Bell, Memory> {
         let mut hints = Vec::new(alloc);
         for _core in 0..cores {
             hints.push(Hint::new())?;
@@ -229,7 +229,7 @@ impl Bell {
     }
 
     /// What is known of the chain of a core.
-    pub(crate) fn hint(&self, core: u16) -> &Hint {
+    pub fn hint(&self, core: u16) -> &Hint {
         match self.hints.get(core as usize) {
             Some(hint) => hint,
             None => &self.nowhere,
@@ -238,7 +238,7 @@ impl Bell {
 
     /// A caller registered an event; whether that made its colour ready. The mark isn't pushed yet,
     /// so nobody can have left the colour idle.
-    pub(crate) fn registered(&self, number: u16, is_ready: bool) {
+    pub fn registered(&self, number: u16, is_ready: bool) {
         if !is_ready {
             return;
         }
@@ -249,7 +249,7 @@ impl Bell {
 
     /// A caller finished a turn; whether that left its colour idle. Where it was the last one,
     /// all that sleep are woken.
-    pub(crate) fn finished<R: Wait>(&self, rt: &R, number: u16, is_idle: bool) {
+    pub fn finished<R: Wait>(&self, rt: &R, number: u16, is_idle: bool) {
         if !is_idle {
             return;
         }
@@ -263,7 +263,7 @@ impl Bell {
 
     /// Whether there was a moment in this call at which no colour was ready or ran, of those that
     /// were counted. The colours that were left idle are added up first: no count ever falls.
-    pub(crate) fn is_idle(&self) -> bool {
+    pub fn is_idle(&self) -> bool {
         let mut idled = 0u64;
         for bed in &self.beds {
             idled = idled.wrapping_add(bed.idled.load(Ordering::SeqCst));
@@ -276,7 +276,7 @@ impl Bell {
     }
 
     /// Counts a worker that begins, before its first step.
-    pub(crate) fn begin(&self) {
+    pub fn begin(&self) {
         self.crew.fetch_add(BEGUN + 1, Ordering::SeqCst);
     }
 
@@ -298,7 +298,7 @@ impl Bell {
     /// Whether a free worker is to leave, whatever lies in its chain: another gave up, or not all
     /// have begun and this one has waited for long. What only who didn't begin may take would be
     /// left for as long as the others find something else.
-    pub(crate) fn is_over(&self, watch: &mut Watch) -> bool {
+    pub fn is_over(&self, watch: &mut Watch) -> bool {
         if self.has_given_up.load(Ordering::SeqCst) {
             return true;
         }
@@ -313,35 +313,35 @@ impl Bell {
     }
 
     /// A caller that isn't counted as at work is about to register an event, or to wake others.
-    pub(crate) fn begin_news(&self) {
+    pub fn begin_news(&self) {
         self.begun_news.fetch_add(1, Ordering::SeqCst);
     }
 
     /// It has woken whoever is to know of that.
-    pub(crate) fn end_news(&self) {
+    pub fn end_news(&self) {
         self.ended_news.fetch_add(1, Ordering::SeqCst);
     }
 
     /// Whether a worker met want of memory.
-    pub(crate) fn is_stopped(&self) -> bool {
+    pub fn is_stopped(&self) -> bool {
         self.stopped.load(Ordering::SeqCst)
     }
 
     /// A worker leaves, and tells all others to stop.
-    pub(crate) fn stop<R: Wait>(&self, rt: &R, number: u16, watch: &mut Watch) {
+    pub fn stop<R: Wait>(&self, rt: &R, number: u16, watch: &mut Watch) {
         self.stopped.store(true, Ordering::SeqCst);
         self.leave(rt, number, watch);
     }
 
     /// A worker gives up and leaves, and so do the others as soon as they are free.
-    pub(crate) fn give_up<R: Wait>(&self, rt: &R, number: u16, watch: &mut Watch) {
+    pub fn give_up<R: Wait>(&self, rt: &R, number: u16, watch: &mut Watch) {
         self.has_given_up.store(true, Ordering::SeqCst);
         self.leave(rt, number, watch);
     }
 
     /// A worker leaves, and wakes the others. With the last one the crew is gone: whoever begins
     /// after it is the first of another.
-    pub(crate) fn leave<R: Wait>(&self, rt: &R, number: u16, watch: &mut Watch) {
+    pub fn leave<R: Wait>(&self, rt: &R, number: u16, watch: &mut Watch) {
         self.rise(number, watch);
         if watch.seeks {
             // Who relied on it needs no other: all are woken.
@@ -366,7 +366,7 @@ impl Bell {
     /// A mark was pushed on the chain of a core by the caller of this number; whether a thief may
     /// take it there. Then somebody is called to search; else the owner is woken, if it sleeps. An
     /// owner that pushes on its own chain is up.
-    pub(crate) fn pushed<R: Wait>(&self, rt: &R, by: u16, core: u16, is_for_thieves: bool) {
+    pub fn pushed<R: Wait>(&self, rt: &R, by: u16, core: u16, is_for_thieves: bool) {
         if is_for_thieves {
             self.call(rt);
         } else if by != core && self.sleepers.load(Ordering::SeqCst) > 0 {
@@ -377,7 +377,7 @@ impl Bell {
     }
 
     /// Whether a mark in a chain has become one that a thief may take: then somebody is called.
-    pub(crate) fn retold<R: Wait>(&self, rt: &R, is_for_thieves: bool) {
+    pub fn retold<R: Wait>(&self, rt: &R, is_for_thieves: bool) {
         if is_for_thieves {
             self.call(rt);
         }
@@ -477,7 +477,7 @@ impl Bell {
     }
 
     /// A worker made this step.
-    pub(crate) fn note<R: Wait>(&self, rt: &R, number: u16, watch: &mut Watch, made: Made) {
+    pub fn note<R: Wait>(&self, rt: &R, number: u16, watch: &mut Watch, made: Made) {
         match made {
             Made::NoneHere => watch.miss_home(),
             Made::NoneThere { victim: _ } => watch.miss(false),
@@ -492,7 +492,7 @@ impl Bell {
     /// A free worker that is about to look at its own chain makes no step, for a while, as long as
     /// the words of all chains say that it would find nothing. It is not so of one that is about to
     /// sleep, which hunts.
-    pub(crate) fn await_news(&self, number: u16, watch: &mut Watch) {
+    pub fn await_news(&self, number: u16, watch: &mut Watch) {
         if watch.place != Some(0) || watch.rings.is_some() {
             return;
         }
@@ -543,7 +543,7 @@ impl Bell {
     /// not all workers have begun, one that never will can leave it asleep for good, so it hunts on
     /// until its patience ends. Nor does it sleep where all others at work do: unless somebody tells
     /// news, none can come any more. Whether it gives up.
-    pub(crate) fn rest<R: Wait>(&self, rt: &R, number: u16, watch: &mut Watch) -> bool {
+    pub fn rest<R: Wait>(&self, rt: &R, number: u16, watch: &mut Watch) -> bool {
         let Some(bed) = self.bed(number) else {
             return false;
         };

@@ -7,7 +7,7 @@ use std::sync::atomic::{AtomicBool, Ordering};
 /// what is true in a moment, but never what was true before the last caller left. It is written only
 /// where it changes: a line of memory that several workers read stays with all of them until then.
 #[derive(Drop)]
-pub(crate) struct Hint {
+pub struct Hint {
     /// Whether the chain has a mark. Its own worker reads it.
     marks: AtomicBool,
 
@@ -29,7 +29,7 @@ fn store(word: &AtomicBool, value: bool) {
 
 impl Hint {
     /// What is known of an empty chain.
-    pub(crate) fn new() -> Hint {
+    pub fn new() -> Hint {
         Hint {
             marks: AtomicBool::new(false),
             apart: [0; 15],
@@ -39,30 +39,30 @@ impl Hint {
     }
 
     /// Whether the chain has a mark.
-    pub(crate) fn has_marks(&self) -> bool {
+    pub fn has_marks(&self) -> bool {
         self.marks.load(Ordering::SeqCst)
     }
 
     /// Whether the chain may have a mark that thieves may take.
-    pub(crate) fn has_spoils(&self) -> bool {
+    pub fn has_spoils(&self) -> bool {
         self.spoils.load(Ordering::SeqCst)
     }
 
     /// The chain has a mark; whether one came in that thieves may take.
-    pub(crate) fn came(&self, is_worthy: bool) {
+    pub fn came(&self, is_worthy: bool) {
         store(&self.marks, true);
         self.told(is_worthy);
     }
 
     /// Whether a mark of the chain has become one that thieves may take.
-    pub(crate) fn told(&self, is_worthy: bool) {
+    pub fn told(&self, is_worthy: bool) {
         if is_worthy {
             store(&self.spoils, true);
         }
     }
 
     /// The front was taken, if there was one; whether the chain is empty now.
-    pub(crate) fn popped(&self, is_empty: bool) {
+    pub fn popped(&self, is_empty: bool) {
         if is_empty {
             store(&self.marks, false);
             store(&self.spoils, false);
@@ -70,7 +70,7 @@ impl Hint {
     }
 
     /// A thief took a mark, if it found one; whether the chain is empty now.
-    pub(crate) fn picked(&self, is_found: bool, is_empty: bool) {
+    pub fn picked(&self, is_found: bool, is_empty: bool) {
         if !is_found {
             store(&self.spoils, false);
         }

@@ -1,0 +1,3 @@
+pub mod KeptChain
+pub mod Frames
+pub mod Chains
