@@ -6,7 +6,7 @@ ghost use Rattle.example_bank.specs.declared.bank.TheConstants.{ACCOUNTS};
 ghost use Rattle.example_bank.specs.Balances.{AreBalanced, IsAccount, IsSound, event_of};
 
 use crate::message::Message;
-use mely_actor::{Actor, Ended, Place, Sends, run_actors};
+use mely_actor::{Actor, Begins, Ended, Place, Sends, run_actors};
 use mely_event::{Colour, Event, Handlers, Memory};
 use mely_history::{Setup, Shape};
 use std::alloc::Global;
@@ -45,10 +45,6 @@ impl Actor for Bank {
         }
     }
 
-    fn begin(&self, _alloc: Global, _colour: Colour) -> Result<u64, Memory> {
-        Ok(0)
-    }
-
     fn on(
         &self,
         _place: Place,
@@ -66,6 +62,12 @@ impl Actor for Bank {
             }
         }
         Ok(())
+    }
+}
+
+impl Begins for Bank {
+    fn begin(&self, _alloc: Global, _colour: Colour) -> Result<u64, Memory> {
+        Ok(0)
     }
 }
 

@@ -9,7 +9,7 @@ ghost use Rattle.example_chat.specs.Chats.{IsOfScript, IsSeat, MayHear, event_of
 use crate::message::Message;
 use crate::script::Line;
 use crate::seat::{Heard, Seat};
-use mely_actor::{Actor, Place, Sends};
+use mely_actor::{Actor, Begins, Place, Sends};
 use mely_event::{Colour, Event, Memory};
 use std::alloc::Global;
 use std::snapshot::Snapshot;
@@ -51,12 +51,6 @@ impl Actor for Chat {
         Event { handler, arg }
     }
 
-    fn begin(&self, alloc: Global, _colour: Colour) -> Result<Seat, Memory> {
-        Ok(Seat {
-            heard: Vec::new(alloc),
-        })
-    }
-
     fn on(
         &self,
         at: Place,
@@ -79,6 +73,14 @@ impl Actor for Chat {
             }
             Message::Hear(place, number, text) => keep(seat, place, number, text),
         }
+    }
+}
+
+impl Begins for Chat {
+    fn begin(&self, alloc: Global, _colour: Colour) -> Result<Seat, Memory> {
+        Ok(Seat {
+            heard: Vec::new(alloc),
+        })
     }
 }
 

@@ -1,4 +1,4 @@
-mod HeardLemmas
-mod RunLemmas
-mod SeatsLemmas
-mod ShownLemmas
+pub mod TalkLemmas
+pub mod SeatLemmas
+mod PickLemmas
+pub mod ChatLemmas

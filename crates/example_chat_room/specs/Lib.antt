@@ -1,5 +1,7 @@
-pub mod Loads
-pub mod Heard
-pub mod Seats
 pub mod Shown
+pub mod Talks
+pub mod LineFaults
+pub mod Clients
+pub mod Messages
+pub mod Parts
 pub mod Talked

@@ -1,5 +1,5 @@
 //! A client of the room.
-ghost use Rattle.std.specs.Prelude.{◌≡◌, ◌≢◌, ◌+◌, ◌-◌, ◌^◌, ◌++◌, None, OnOk, false, min, option_map};
+ghost use Rattle.std.specs.Prelude.{◌≡◌, None, false, true};
 ghost use Rattle.std.specs.Option.{ForSome};
 
 use crate::end::End;
@@ -19,43 +19,47 @@ pub(crate) enum Turn {
     /// It waits for its link.
     Waits,
 
-    /// Its time in the room has ended.
+    /// It does nothing: its time in the room has ended, or its link hasn't come.
     Gone,
 }
 
 /// A client of the room: its link, what has come from it, and what is on its way to it.
 #[derive(Drop)]
 pub struct Client<L: Link> {
-    /// Nothing before the client has come, and once it is gone.
+    /// Nothing before the client has come.
     link: Option<L>,
-
-    /// Its link that was shut, once it is gone.
-    gone: Option<L>,
     inbox: Inbox,
     outbox: Outbox,
-
-    /// How many of the room's lines have come to its colour.
-    heard: u64,
     end: Option<End>,
 
-    ghost open: { ForSome link (λ l. L.is_shut l ≡ false) },
+    /// Whether its link was shut, after its end.
+    is_gone: bool,
+
+    ghost open: { is_gone ≡ false → ForSome link (λ l. L.is_shut l ≡ false) },
+    ghost stays: { end ≡ None → is_gone ≡ false },
+    ghost was_shut: { is_gone ≡ true → ForSome link (λ l. L.is_shut l ≡ true) },
 }
 
 /// How many bytes a read asks for at most.
 const PIECE: usize = 512;
 
 impl<L: Link + Drop> Client<L> {
-    ghost use Rattle.example_chat_room.specs.Shown.{shown, shown_to};
+    ghost use Rattle.std.specs.Prelude.{◌≢◌, [], ℕ, List, IfSome, Some, is_some};
+    ghost use Rattle.example_chat_room.specs.declared.end.End.TheVariants as ends;
+    ghost use Rattle.example_chat_room.specs.Clients.{Goes, IsLine, IsStepLine, StepGoes, shown_client, to_come};
+    ghost use Rattle.example_chat_room.specs.Shown.{FitsLine, shown, shown_of};
+    ghost use Rattle.example_chat_room.specs.Talks.{GoesOn, IsTalk, Keeps, Shows};
 
     /// A client that is still to come. It takes no memory.
-    pub(crate) fn new(alloc: Global) -> Client<L> {
+    pub(crate) fn new(alloc: Global) -> Client<L>
+        ensures { shown_client result ≡ to_come }
+    {
         Client {
             link: None,
-            gone: None,
             inbox: Inbox::new(alloc),
             outbox: Outbox::new(alloc),
-            heard: 0,
             end: None,
+            is_gone: false,
         }
     }
 
@@ -67,28 +71,54 @@ impl<L: Link + Drop> Client<L> {
     }
 
     /// Its link, which was shut, once it is gone.
-    pub fn gone(&self) -> Option<&L> {
-        self.gone.as_ref()
+    pub fn gone(&self) -> Option<&L>
+        ensures { IfSome result (λ link. L.is_shut link.now ≡ true) }
+    {
+        if self.is_gone {
+            self.link.as_ref()
+        } else {
+            None
+        }
     }
 
-    /// The client has come, by this link.
-    pub(crate) fn open(&mut self, link: L)
+    /// The client has come, by this link. It takes no second one.
+    pub(crate) fn open(&mut self, mut link: L)
         requires { L.is_shut link ≡ false }
+        ensures first { (shown_client self.old).has_come ≡ false → shown_client self.new
+            ≡ record (shown_client self.old) { has_come = true; told = L.tells link } }
+        ensures second { (shown_client self.old).has_come ≡ true
+            → shown_client self.new ≡ shown_client self.old }
     {
+        if self.link.is_some() {
+            return;
+        }
+        if self.is_gone {
+            link.shut();
+        }
         self.link = Some(link);
     }
 
-    /// The network has failed: the client's time in the room ends.
-    pub(crate) fn cut(&mut self) {
-        self.end = Some(End::Fault);
+    /// The network has failed: the client's time in the room ends, if it hasn't.
+    pub(crate) fn cut(&mut self)
+        ensures keeps { Keeps (shown_client self.old) (shown_client self.new) }
+        ensures goes_on { GoesOn (shown_client self.old) (shown_client self.new) }
+    {
+        if self.end.is_none() {
+            self.end = Some(End::Fault);
+        }
         self.leave();
     }
 
     /// The client writes what its link takes of what is on its way. Where that is all, it says the
     /// next line of what has come, if there is one: who doesn't take lines isn't heard either.
     pub(crate) fn go_on(&mut self) -> Turn
-        ensures { self.new.end ≡ None → shown_to self.new ≡ shown_to self.old }
+        ensures goes { Goes result (shown_client self.old) (shown_client self.new) }
+        ensures line { IsLine result }
+        ensures goes_on { GoesOn (shown_client self.old) (shown_client self.new) }
     {
+        if self.link.is_none() {
+            return Turn::Gone;
+        }
         self.flush();
         if self.end.is_none() && !self.outbox.bytes().is_empty() {
             return Turn::Waits;
@@ -98,13 +128,8 @@ impl<L: Link + Drop> Client<L> {
             if self.end.is_some() {
                 break;
             }
-            match self.inbox.take_line() {
-                Ok(Some(text)) => return Turn::Says(text),
-                Ok(None) => {}
-                Err(end) => self.end = Some(end),
-            }
-            if self.end.is_none() && !self.read() {
-                return Turn::Waits;
+            if let Some(turn) = self.step() {
+                return turn;
             }
         }
         if self.end.is_none() {
@@ -114,55 +139,82 @@ impl<L: Link + Drop> Client<L> {
         Turn::Gone
     }
 
-    /// A line of the room comes to the client: it is shown it, unless it said it. Over a link that
-    /// tells what is written, it is then shown just that line more, unless its time has ended.
-    pub(crate) fn hear(&mut self, own: u16, line: &Line)
-        ensures heard { self.new.heard ≡ min (self.old.heard + 1) (2 ^ 64 - 1) }
-        ensures own { line.now.from ≡ own → (self.new.link ≡ self.old.link)
-            × (self.new.outbox ≡ self.old.outbox) }
-        ensures in_order { line.now.place ≢ self.old.heard → (self.new.link ≡ self.old.link)
-            × (self.new.outbox ≡ self.old.outbox) }
-        ensures shown { line.now.from ≢ own → self.new.end ≡ None → shown_to self.new
-            ≡ option_map (λ before. before ++ shown line.now) (shown_to self.old) }
+    /// The client says a line that has come, or else reads what comes. Where nothing has, it waits.
+    fn step(&mut self) -> Option<Turn>
+        requires come { (shown_client self.old).has_come ≡ true }
+        requires goes_on { self.old.end ≡ None }
+        requires written { self.old.outbox.bytes.items ≡ [] }
+        ensures goes { StepGoes result (shown_client self.old) (shown_client self.new) }
+        ensures line { IsStepLine result }
+        ensures come { (shown_client self.new).has_come ≡ true }
+        ensures written { self.new.outbox.bytes.items ≡ [] }
     {
-        let heard = self.heard;
-        self.heard = heard.saturating_add(1);
-        if self.link.is_none() || self.end.is_some() || line.from == own {
-            return;
+        let taken = match self.inbox.take_line() {
+            Ok(taken) => taken,
+            Err(end) => {
+                self.end = Some(end);
+                return None;
+            }
+        };
+        if let Some(text) = taken {
+            return Some(Turn::Says(text));
         }
-        if line.place != heard {
-            self.end = Some(End::Disorder);
-            return;
-        }
-        if let Err(end) = self.show(line) {
-            self.end = Some(end);
+        if self.read() { None } else { Some(Turn::Waits) }
+    }
+
+    /// A line of the room comes to the client: it is shown it, unless it said it. Before it has
+    /// come and once its time has ended, it is shown none.
+    pub(crate) fn hear(&mut self, own: u16, line: &Line)
+        ensures shows { (shown_client self.old).has_come ≡ true → self.old.end ≡ None
+            → Shows (shown_of own line.now) (shown_client self.old) (shown_client self.new) }
+        ensures before { (shown_client self.old).has_come ≡ false
+            → shown_client self.new ≡ shown_client self.old }
+        ensures after { is_some self.old.end ≡ true → shown_client self.new ≡ shown_client self.old }
+        ensures goes_on { GoesOn (shown_client self.old) (shown_client self.new) }
+    {
+        if self.link.is_some() && self.end.is_none() && line.from != own {
+            self.show(line);
         }
     }
 
     /// The client is shown a line. Its head goes first, by itself: a link that keeps heads back
     /// sends it with what is behind it.
-    fn show(&mut self, line: &Line) -> Result<(), End>
-        ensures heard { self.new.heard ≡ self.old.heard }
-        ensures shown { OnOk result (self.new.end ≡ None → shown_to self.new
-            ≡ option_map (λ before. before ++ shown line.now) (shown_to self.old)) }
-        ensures ended { self.new.end ≡ None → self.old.end ≡ None }
+    fn show(&mut self, line: &Line)
+        requires come { (shown_client self.old).has_come ≡ true }
+        requires not_left { self.old.end ≢ Some ends.Left }
+        ensures shows { Shows (shown line.now) (shown_client self.old) (shown_client self.new) }
+        ensures goes_on { GoesOn (shown_client self.old) (shown_client self.new) }
     {
         let mut number = Buffer::new();
-        self.outbox
-            .add(number.format(u32::from(line.from) + 1).as_bytes())?;
-        self.outbox.add(b": ")?;
+        self.put(number.format(u32::from(line.from) + 1).as_bytes());
+        self.put(b": ");
         self.flush();
-        self.outbox.add(&line.text)?;
-        self.outbox.add(b"\n")?;
+        self.put(&line.text);
+        self.put(b"\n");
         self.flush();
-        Ok(())
+    }
+
+    /// These bytes are on their way too, or its time ends.
+    fn put(&mut self, piece: &[u8])
+        requires come { (shown_client self.old).has_come ≡ true }
+        requires not_left { self.old.end ≢ Some ends.Left }
+        ensures shows { Shows piece.now (shown_client self.old) (shown_client self.new) }
+        ensures not_left { self.new.end ≢ Some ends.Left }
+        ensures goes_on { GoesOn (shown_client self.old) (shown_client self.new) }
+    {
+        if self.end.is_some() {
+            return;
+        }
+        if let Err(end) = self.outbox.add(piece) {
+            self.end = Some(end);
+        }
     }
 
     /// Writes what is on its way, as far as the link takes it.
     fn flush(&mut self)
-        ensures heard { self.new.heard ≡ self.old.heard }
-        ensures shown { self.new.end ≡ None → shown_to self.new ≡ shown_to self.old }
-        ensures ended { self.new.end ≡ None → self.old.end ≡ None }
+        ensures keeps { Keeps (shown_client self.old) (shown_client self.new) }
+        ensures not_left { self.old.end ≢ Some ends.Left → self.new.end ≢ Some ends.Left }
+        ensures goes_on { GoesOn (shown_client self.old) (shown_client self.new) }
     {
         if self.end.is_some() {
             return;
@@ -188,8 +240,12 @@ impl<L: Link + Drop> Client<L> {
 
     /// Reads what has come, and answers whether anything has, the end among it.
     fn read(&mut self) -> bool
-        ensures shown { shown_to self.new ≡ shown_to self.old }
-        ensures ended { self.new.end ≡ None → self.old.end ≡ None }
+        requires goes_on { self.old.end ≡ None }
+        requires no_line { FitsLine self.old.inbox.bytes.items }
+        requires written { self.old.outbox.bytes.items ≡ [] }
+        ensures keeps { Keeps (shown_client self.old) (shown_client self.new) }
+        ensures come { (shown_client self.new).has_come ≡ (shown_client self.old).has_come }
+        ensures written { self.new.outbox.bytes.items ≡ [] }
     {
         let Some(link) = &mut self.link else {
             return false;
@@ -216,11 +272,15 @@ impl<L: Link + Drop> Client<L> {
 
     /// The connection is ended.
     fn leave(&mut self)
-        ensures { self.new.end ≡ self.old.end }
+        requires { self.old.end ≢ None }
+        ensures { shown_client self.new ≡ shown_client self.old }
     {
-        if let Some(mut link) = self.link.take() {
-            link.shut();
-            self.gone = Some(link);
+        if self.is_gone {
+            return;
         }
+        if let Some(link) = &mut self.link {
+            link.shut();
+        }
+        self.is_gone = true;
     }
 }

@@ -1,4 +1,7 @@
 //! How a client's time in the room ends.
+ghost use Rattle.std.specs.Prelude.{◌≡◌};
+ghost use Rattle.example_chat_room.specs.declared.end.End.TheVariants as ends;
+
 use std::alloc::AllocError;
 use std::fmt;
 
@@ -19,9 +22,6 @@ pub enum End {
 
     /// There was no memory for what it said or was to be shown.
     Memory,
-
-    /// A line came to it out of the room's order, and was not shown.
-    Disorder,
 }
 
 impl fmt::Display for End {
@@ -32,12 +32,13 @@ impl fmt::Display for End {
             End::Slow => "was dropped: it didn't take what others said",
             End::Fault => "was dropped: its connection failed",
             End::Memory => "was dropped: there was no memory",
-            End::Disorder => "was dropped: a line came out of order",
         })
     }
 }
 
 impl From<AllocError> for End {
+    ghost from_gives = { λ _ end. end ≡ ends.Memory };
+
     fn from(_error: AllocError) -> End {
         End::Memory
     }

@@ -9,9 +9,6 @@ pub struct Line {
     /// Who said it, by the number of its connection, from 0 on.
     pub from: u16,
 
-    /// How many lines the room got before it, once the room has it.
-    pub place: u64,
-
     /// What it says, without its end.
     pub text: Vec<u8>,
 }

@@ -1,5 +1,6 @@
 //! What is on its way to a client.
-ghost use Rattle.std.specs.Prelude.{◌≡◌, ◌≤◌, ◌++◌, [], OnOk, drop, length};
+ghost use Rattle.std.specs.Prelude.{◌≡◌, ◌≤◌, ◌++◌, [], IfErr, OnOk, drop, length};
+ghost use Rattle.example_chat_room.specs.Talks.{IsFull};
 
 use crate::end::End;
 use std::alloc::Global;
@@ -38,6 +39,7 @@ impl Outbox {
     pub(crate) fn add(&mut self, piece: &[u8]) -> Result<(), End>
         ensures added { OnOk result (self.new.bytes.items ≡ self.old.bytes.items ++ piece.now) }
         ensures bounded { OnOk result (length self.new.bytes.items ≤ 65536) }
+        ensures full { IfErr result (λ end. IsFull end (self.old.bytes.items ++ piece.now)) }
     {
         if self.bytes.len() > PENDING || piece.len() > PENDING - self.bytes.len() {
             return Err(End::Slow);

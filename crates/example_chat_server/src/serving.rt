@@ -2,7 +2,7 @@
 ghost use Rattle.std.specs.Prelude.{◌≤◌};
 
 use crate::words::Words;
-use example_chat_room::{End, Part, Seat, run_chat};
+use example_chat_room::{End, Part, run_chat};
 use mely_event::Memory;
 use std::alloc::AllocError;
 use std::io::{self, ErrorKind};
@@ -89,17 +89,17 @@ pub fn serve<R: Threads + Wait + Sync>(
     let Ok(ended) = run_chat(threads, rt.alloc(), words.workers, world) else {
         return Err(Fault::Memory);
     };
-    tell(rt, &ended.states)
+    tell(rt, &ended.values)
 }
 
 /// Says how each client did.
-fn tell(rt: &HostRuntime, seats: &[Seat<LaneWorld<'_>, TcpLink>]) -> Result<(), Fault> {
+fn tell(rt: &HostRuntime, parts: &[Part<LaneWorld<'_>, TcpLink>]) -> Result<(), Fault> {
     let mut is_broken = false;
-    for (colour, seat) in seats.iter().enumerate() {
-        match seat.part() {
+    for (colour, part) in parts.iter().enumerate() {
+        match part {
             Part::Desk(desk) => is_broken = desk.is_broken(),
-            Part::Room => {
-                if println!(rt; "the room had {} lines", seat.events()).is_err() {
+            Part::Room(room) => {
+                if println!(rt; "the room had {} lines", room.lines()).is_err() {
                     return Err(Fault::Network);
                 }
             }

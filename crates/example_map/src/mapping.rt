@@ -5,7 +5,7 @@ ghost use Rattle.mely_actor.specs.Sending.{MaySend};
 ghost use Rattle.example_map.specs.Mapped.{IsDone, numbered, one_event};
 
 use crate::task::Task;
-use mely_actor::{Actor, Ended, Place, Sends, run_actors};
+use mely_actor::{Actor, Begins, Ended, Place, Sends, run_actors};
 use mely_event::{Colour, Event, Handlers, Memory};
 use mely_history::{Setup, Shape};
 use std::alloc::Global;
@@ -39,10 +39,6 @@ impl<T: Task> Actor for Mapping<T> {
         Event { handler: 1, arg: 0 }
     }
 
-    fn begin(&self, _alloc: Global, _colour: Colour) -> Result<Option<T::Out>, Memory> {
-        Ok(None)
-    }
-
     fn on(
         &self,
         _place: Place,
@@ -52,6 +48,12 @@ impl<T: Task> Actor for Mapping<T> {
     ) -> Result<(), Memory> {
         *value = Some(self.task.run(message));
         Ok(())
+    }
+}
+
+impl<T: Task> Begins for Mapping<T> {
+    fn begin(&self, _alloc: Global, _colour: Colour) -> Result<Option<T::Out>, Memory> {
+        Ok(None)
     }
 }
 

@@ -7,4 +7,5 @@ pub mod Values
 pub mod Asking
 pub mod Stored
 pub mod Sent
+pub mod Saved
 pub mod Words

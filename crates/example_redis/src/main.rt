@@ -1,5 +1,5 @@
-//! `example_redis PORT CLIENTS [WORKERS]`: a store of values under keys that speaks the protocol of
-//! Redis, so that its clients can be clients of this.
+//! `example_redis PORT CLIENTS [WORKERS] [--file PATH]`: a store of values under keys that speaks
+//! the protocol of Redis, so that its clients can be clients of this.
 //!
 //! It listens on 127.0.0.1, says where, and takes so many connections in all, up to 1,024; when all
 //! of them have ended it says how many failed, and ends. Once the last has come, nobody takes
@@ -10,20 +10,22 @@
 //! It knows PING, ECHO, GET, SET (with NX, XX and GET), SETNX, GETSET, DEL and EXISTS of one key,
 //! INCR, DECR, INCRBY, DECRBY, APPEND, STRLEN, COMMAND (which lists none) and QUIT, as arrays of
 //! bulk strings or as lines. A key has 1,024 bytes at most, a value 65,536, a request 262,144 and
-//! 1,024 words. Nothing is kept when it ends.
+//! 1,024 words. With a file it begins with what that has, and is written there when it ends.
 //!
 //! It is an example of a service, to copy: `frame.rt` says where a request ends, `asking.rt` what
 //! it asks and of which cell, `value.rt` what becomes of the value of a key, `reply.rt` how a reply
 //! is written, and `store.rt` puts these together. A key is in the cell of its hash, so all
 //! processors serve keys at once, and no handler takes a lock.
 //!
-//! The statuses are 2 for wrong words, 6 where nobody can listen at the port or the network failed,
+//! The statuses are 2 for wrong words, 4 for a file that is torn or damaged, 5 for one that can't be
+//! read or written, 6 where nobody can listen at the port or the network failed,
 //! and 7 for want of memory.
 #![tactic(auto)]
 
 mod asking;
 mod frame;
 mod heard;
+mod keeping;
 mod laws;
 mod limits;
 mod number;
@@ -31,6 +33,7 @@ mod over_bytes;
 mod over_tcp;
 mod reply;
 mod request;
+mod saved;
 mod store;
 mod value;
 mod verb;
@@ -38,12 +41,13 @@ mod words;
 
 use over_bytes::serve_bytes;
 use over_tcp::{Fault, serve_tcp};
+use saved::Unsaved;
 use std::io;
 use std::io::{Read, Write};
 use std::process::ExitCode;
 use std::sync::Wait;
 use std::thread::Threads;
-use words::{Words, read_words};
+use words::{Listening, Words, read_words};
 
 /// Serves what standard input has. Threads are of the second handle, which is the same runtime.
 fn serve_input<R: Threads + Wait + Sync>(rt: &HostRuntime, threads: &R) -> io::Result<ExitCode> {
@@ -61,12 +65,40 @@ fn serve_input<R: Threads + Wait + Sync>(rt: &HostRuntime, threads: &R) -> io::R
     }
 }
 
+/// The path of the file.
+fn file_of(words: &Listening) -> &str {
+    match &words.file {
+        Some(path) => path.as_str(),
+        None => "no file",
+    }
+}
+
+/// Says why a file isn't a store.
+fn tell_unsaved(rt: &HostRuntime, words: &Listening, unsaved: Unsaved) -> io::Result<()> {
+    let path = file_of(words);
+    match unsaved {
+        Unsaved::Torn(place) => eprintln!(rt; "example_redis: {path} is torn behind byte {place}"),
+        Unsaved::Damaged(place) => {
+            eprintln!(rt; "example_redis: {path} is damaged behind byte {place}")
+        }
+        Unsaved::Memory => eprintln!(rt; "example_redis: no memory"),
+    }
+}
+
+/// The status of a file that isn't a store.
+fn unsaved_status(unsaved: Unsaved) -> u8 {
+    match unsaved {
+        Unsaved::Torn(_) | Unsaved::Damaged(_) => 4,
+        Unsaved::Memory => 7,
+    }
+}
+
 fn main(rt: HostRuntime) -> io::Result<ExitCode> {
     let words = match read_words(&rt) {
         Words::Port(words) => words,
         Words::Input => return serve_input(&rt, &rt),
         Words::Wrong => {
-            eprintln!(rt; "usage: example_redis PORT CLIENTS [WORKERS]")?;
+            eprintln!(rt; "usage: example_redis PORT CLIENTS [WORKERS] [--file PATH]")?;
             eprintln!(rt; "       example_redis < REQUESTS")?;
             eprintln!(rt; "CLIENTS is from 1 to 1024, WORKERS from 1 to 64; PORT 0 is any port")?;
             return Ok(ExitCode::from(2));
@@ -80,6 +112,14 @@ fn main(rt: HostRuntime) -> io::Result<ExitCode> {
                 words.port
             )?;
             Ok(ExitCode::from(6))
+        }
+        Err(Fault::Unsaved(unsaved)) => {
+            tell_unsaved(&rt, &words, unsaved)?;
+            Ok(ExitCode::from(unsaved_status(unsaved)))
+        }
+        Err(Fault::File(error)) => {
+            eprintln!(rt; "example_redis: {}: {error}", file_of(&words))?;
+            Ok(ExitCode::from(5))
         }
         Err(Fault::Network) => {
             eprintln!(rt; "example_redis: the network failed")?;

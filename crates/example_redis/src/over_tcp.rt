@@ -1,11 +1,13 @@
 //! The store over TCP.
 ghost use Rattle.example_redis.specs.Words.{IsInRange};
 
+use crate::keeping::{begin_store, keep, keep_rest};
+use crate::saved::Unsaved;
 use crate::store::{Store, Values};
 use crate::words::Listening;
 use mely_actor::Ended;
 use mely_event::Memory;
-use mely_net::{End, Part, serve};
+use mely_net::{End, Part, serve_on};
 use std::alloc::AllocError;
 use std::io::{self, ErrorKind};
 use std::net::{IpAddr, Ipv4Addr, SocketAddr, TcpListener};
@@ -14,8 +16,14 @@ use std::thread::Threads;
 use sws_link::{Opened, World};
 use sws_net::{Door, Entrance, LaneWorld, TcpLink};
 
-/// Why nothing was served.
+/// Why nothing was served, or what was served isn't kept.
 pub enum Fault {
+    /// The file isn't a store: why.
+    Unsaved(Unsaved),
+
+    /// The file can't be read or written.
+    File(io::Error),
+
     /// Nobody can listen at the port.
     Listen(io::Error),
 
@@ -56,7 +64,8 @@ fn listen(rt: &HostRuntime, port: u16) -> io::Result<TcpListener> {
     Ok(listener)
 }
 
-/// Serves so many connections to a port, until all of them have ended, and says how many failed.
+/// Serves so many connections to a port, until all of them have ended, and says how many failed. The
+/// store begins with what its file has, where there is one, and is kept there at the end.
 /// Threads are of the second handle, which is the same runtime: only where a program begins does it
 /// have threads to give.
 ///
@@ -70,6 +79,7 @@ pub fn serve_tcp<R: Threads + Wait + Sync>(
 ) -> Result<(), Fault>
     requires { IsInRange words.now }
 {
+    let cells = begin_store(rt, &words.file)?;
     let listener = listen(rt, words.port).map_err(listen_fault)?;
     let door = Door::new(rt.alloc(), 1, 1)?;
     door.try_enter(0);
@@ -86,15 +96,25 @@ pub fn serve_tcp<R: Threads + Wait + Sync>(
         Opened::Failed => return Err(Fault::Network),
         Opened::Memory => return Err(Fault::Memory),
     }
-    let ended = serve(threads, rt.alloc(), words.workers, Store, world)?;
-    tell(rt, &ended)
+    match serve_on(threads, rt.alloc(), words.workers, Store, cells, world) {
+        Ok(ended) => {
+            let is_told = tell(rt, &ended);
+            keep(rt, &words.file, ended.values)?;
+            if is_told { Ok(()) } else { Err(Fault::Network) }
+        }
+        Err(halted) => {
+            keep_rest(rt, &words.file, halted.values)?;
+            Err(Fault::Memory)
+        }
+    }
 }
 
 /// What a run over sockets leaves.
 type Left<'d> = Ended<Part<Values, LaneWorld<'d>, TcpLink>>;
 
-/// Says how many connections there were, and how many of them failed.
-fn tell(rt: &HostRuntime, ended: &Left<'_>) -> Result<(), Fault> {
+/// Says how many connections there were, and how many of them failed. Answers whether neither the
+/// network failed nor standard output.
+fn tell(rt: &HostRuntime, ended: &Left<'_>) -> bool {
     let mut is_broken = false;
     let (mut served, mut failed): (u32, u32) = (0, 0);
     for part in ended.values.iter() {
@@ -108,8 +128,5 @@ fn tell(rt: &HostRuntime, ended: &Left<'_>) -> Result<(), Fault> {
         }
     }
     let told = println!(rt; "{served} connections were served, and {failed} failed");
-    if is_broken || told.is_err() {
-        return Err(Fault::Network);
-    }
-    Ok(())
+    !is_broken && told.is_ok()
 }

@@ -63,7 +63,7 @@ pub enum Reply {
 }
 
 /// Puts bytes behind others.
-fn put(out: &mut Vec<u8>, bytes: &[u8]) -> Result<(), Memory>
+pub fn put(out: &mut Vec<u8>, bytes: &[u8]) -> Result<(), Memory>
     ensures { OnOk result (out.new.items ≡ out.old.items ++ bytes.now) }
 {
     out.extend_from_slice(bytes)?;
@@ -132,7 +132,7 @@ fn write_refusal(refusal: &Refusal, out: &mut Vec<u8>) -> Result<(), Memory>
 }
 
 /// Puts a value, with its size in front, behind others.
-fn write_value(value: &[u8], out: &mut Vec<u8>) -> Result<(), Memory>
+pub fn write_value(value: &[u8], out: &mut Vec<u8>) -> Result<(), Memory>
     ensures { OnOk result (out.new.items ≡ out.old.items ++ bulk value.now) }
 {
     let mut digits = Buffer::new();

@@ -7,17 +7,20 @@ use mely_net::MOST_WORKERS;
 use std::env;
 
 /// A port to listen at.
-#[derive(Clone, Copy)]
+#[derive(Drop)]
 pub struct Listening {
     pub port: u16,
 
     /// How many connections are taken in all.
     pub clients: u16,
     pub workers: u16,
+
+    /// Where the store is kept, if it is.
+    pub file: Option<String>,
 }
 
 /// What the words say.
-#[derive(Clone, Copy)]
+#[derive(Drop)]
 pub enum Words {
     /// To listen.
     Port(Listening),
@@ -41,6 +44,11 @@ fn number(word: &str, least: u16, most: u16) -> Option<u16>
     Some(number)
 }
 
+/// Whether a word says that the file comes behind it.
+fn is_option(word: &str) -> bool {
+    word == "--file"
+}
+
 /// What the words say of a port.
 fn read_port(rt: &HostRuntime) -> Option<Listening>
     ensures { IfSome result IsInRange }
@@ -48,9 +56,22 @@ fn read_port(rt: &HostRuntime) -> Option<Listening>
     let mut words = env::args(rt).ok()?.skip(1);
     let port = number(words.next()?.as_str(), 0, 65_535)?;
     let clients = number(words.next()?.as_str(), 1, MOST_CLIENTS)?;
-    let workers = match words.next() {
-        Some(word) => number(word.as_str(), 1, MOST_WORKERS)?,
-        None => 2,
+    let mut workers = 2;
+    let mut word = words.next();
+    if let Some(text) = &word {
+        if !is_option(text.as_str()) {
+            workers = number(text.as_str(), 1, MOST_WORKERS)?;
+            word = words.next();
+        }
+    }
+    let file = match word {
+        Some(text) => {
+            if !is_option(text.as_str()) {
+                return None;
+            }
+            Some(words.next()?)
+        }
+        None => None,
     };
     if words.next().is_some() {
         return None;
@@ -59,6 +80,7 @@ fn read_port(rt: &HostRuntime) -> Option<Listening>
         port,
         clients,
         workers,
+        file,
     })
 }
 

@@ -38,20 +38,16 @@ replies_behind entries (Put key value ∷ more) = replies_behind (after_one entr
 replies_behind entries (Get key client ∷ more) = (omega arith, replies_behind entries more)
 replies_behind entries (Answer key found ∷ more) = replies_behind entries more
 
--- so all that is sent goes to clients
-sent_behind : (sent : List (Colour × Message)) → AllByRecursion IsBehind (map (λ send. reply_in send.0 send.1) sent) → AllByRecursion (λ send. BUCKETS ≤ send.0.0) sent
-sent_behind [] all = tt
-sent_behind ((to, Put key value) ∷ sent) all = absurd all.0
-sent_behind ((to, Get key client) ∷ sent) all = absurd all.0
-sent_behind ((to, Answer key found) ∷ sent) all = (all.0, sent_behind sent all.1)
-
-none_to : (c : Colour) (number : Message → ℕ) (sent : List (Colour × Message)) → c.0 < BUCKETS → AllByRecursion (λ send. BUCKETS ≤ send.0.0) sent → count_to c number sent ≡ 0
+-- so nothing that is sent goes to a bucket
+none_to : (c : Colour) (number : Message → ℕ) (sent : List (Colour × Message)) → c.0 < BUCKETS → AllByRecursion IsBehind (all_in sent) → count_to c number sent ≡ 0
 none_to c number [] low all = refl
-none_to c number (send ∷ sent) low all =
+none_to c number ((to, Put key value) ∷ sent) low all = absurd all.0
+none_to c number ((to, Get key client) ∷ sent) low all = absurd all.0
+none_to c number ((to, Answer key found) ∷ sent) low all =
     let rest = none_to c number sent low all.1 in
     let high = all.0 in
-    let here : (if send.0.0 == c.0 then number send.1 else 0) ≡ 0 = ap (λ b. if b then number send.1 else 0) (ne_eqb send.0.0 c.0 (λ e. omega (arith, e, low, high))) in
-    let one = sum_by-cons (λ (s : Colour × Message). if s.0.0 == c.0 then number s.1 else 0) send sent in
+    let here : (if to.0 == c.0 then number (Answer key found) else 0) ≡ 0 = ap (λ b. if b then number (Answer key found) else 0) (ne_eqb to.0 c.0 (λ e. omega (arith, e, low, high))) in
+    let one = sum_by-cons (λ (s : Colour × Message). if s.0.0 == c.0 then number s.1 else 0) (to, Answer key found) sent in
     omega (arith, rest, here, one)
 
 -- a client sends nothing
@@ -67,13 +63,6 @@ nothing_sent (send ∷ sent) none = cc
 
 -- ---- an answer that was sent
 
--- the message asked for the key, and this is what the entries had
-record Told (entries : List (ℕ × String Global)) (message : Message) (to : Colour) (key : ℕ) (found : Option (String Global)) : Type 0 where
-  client : ℕ
-  get : message ≡ Get key client
-  asks : to ≡ record { 0 = BUCKETS + client }
-  had : text_of found ≡ found_in entries key
-
 none_sent : {A : Type 0} (sent : List (Colour × Message)) (send : Colour × Message) → all_in sent ≡ [] → Contains sent send → A
 none_sent [] send none (k, low, at) = absurd (omega (arith, low))
 none_sent (one ∷ sent) send none there = cc
@@ -83,7 +72,8 @@ all_are [] reply is = tt
 all_are (send ∷ []) reply is = (cc, tt)
 all_are (send ∷ other ∷ sent) reply is = cc
 
-told_by : (entries : List (ℕ × String Global)) (message : Message) (sent : List (Colour × Message)) (to : Colour) (key : ℕ) (found : Option (String Global)) → all_in sent ≡ reply_to entries message → Contains sent (to, Answer key found) → Told entries message to key found
+-- the message asked for the key, and this is what the entries had
+told_by : (entries : List (ℕ × String Global)) (message : Message) (sent : List (Colour × Message)) (to : Colour) (key : ℕ) (found : Option (String Global)) → all_in sent ≡ reply_to entries message → Contains sent (to, Answer key found) → (client : ℕ) × (message ≡ Get key client) × (to ≡ record { 0 = BUCKETS + client }) × (text_of found ≡ found_in entries key)
 told_by entries (Put k value) sent to key found replied there = none_sent sent (to, Answer key found) replied there
 told_by entries (Answer k value) sent to key found replied there = none_sent sent (to, Answer key found) replied there
 told_by entries (Get k client) sent to key found replied there =
@@ -91,12 +81,7 @@ told_by entries (Get k client) sent to key found replied there =
     let Is : Colour × Message → Type 0 = λ send. reply_in send.0 send.1 ≡ Some one in
     let is : (to, key, text_of found) ≡ one = same_Some (to, key, text_of found) one (All-contains Is sent (to, Answer key found) (All-from_recursion Is sent (all_are sent (Some one) replied)) there) in
     let same : key ≡ k = ap (λ (r : Reply). r.1) is in
-    record {
-      client = client;
-      get = ap (λ n. Get n client) (sym same);
-      asks = ap (λ (r : Reply). r.0) is;
-      had = ap (λ (r : Reply). r.2) is ∙ ap (found_in entries) (sym same);
-    }
+    (client, ap (λ n. Get n client) (sym same), ap (λ (r : Reply). r.0) is, ap (λ (r : Reply). r.2) is ∙ ap (found_in entries) (sym same))
 
 -- a sum in which only the first colours count
 first_colours : (n k : ℕ) (f : Colour → ℕ) → ((d : Colour) → n ≤ d.0 → d.0 < n + k → f d ≡ 0) → sum_colours (n + k) f ≡ sum_colours n f
@@ -118,8 +103,8 @@ module _ {A : Type 0} (a : ActorWords A Slot Message) (store : A) (setup : Setup
       let slot = get_there slots d.0 (omega (arith, low, many, colours)) in
       (keeps d (kept.received d) (kept.sent d) slot.0 (kept.kept d slot.0 slot.1)).replied
 
-  to_clients : (d : Colour) → d.0 < BUCKETS + CLIENTS → AllByRecursion (λ send. BUCKETS ≤ send.0.0) (kept.sent d)
-  to_clients d low = sent_behind (kept.sent d) (subst (AllByRecursion IsBehind) (sym (replied d low)) (replies_behind [] (kept.received d)))
+  to_clients : (d : Colour) → d.0 < BUCKETS + CLIENTS → AllByRecursion IsBehind (all_in (kept.sent d))
+  to_clients d low = subst (AllByRecursion IsBehind) (sym (replied d low)) (replies_behind [] (kept.received d))
 
   silent : (d : Colour) → BUCKETS ≤ d.0 → d.0 < BUCKETS + CLIENTS → kept.sent d ≡ []
   silent d high low = nothing_sent (kept.sent d) (replied d low ∙ nothing_replied d [] (kept.received d) high (placed d low))
@@ -140,11 +125,11 @@ module _ {A : Type 0} (a : ActorWords A Slot Message) (store : A) (setup : Setup
         asked = was.by;
         between = was.between;
         place = was.place;
-        bucket = (subst (IsPlaced c) told.get (sounds c message comes.may.1)).0;
-        client = told.client;
-        get = told.get;
-        asks = told.asks;
-        had = told.had;
+        bucket = (subst (IsPlaced c) told.1 (sounds c message comes.may.1)).0;
+        client = told.0;
+        get = told.1;
+        asks = told.2;
+        had = told.3;
       }
 
   answers_are_true : (before later : List (Receipt Message Slot)) (receipt : Receipt Message Slot) (key : ℕ) (found : Option (String Global)) → kept.serial.all ≡ before ++ receipt ∷ later → receipt.message ≡ Answer key found → Contains posts (receipt.colour, Answer key found) ⊎ WasAsked before receipt.colour key found

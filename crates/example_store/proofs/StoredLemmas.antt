@@ -26,18 +26,12 @@ abbrev pub all_in : List (Colour × Message) → List (Option Reply)
 all_in sent = map (λ (send : Colour × Message). reply_in send.0 send.1) sent
 
 module _ (received : List Message) (sent new : List (Colour × Message)) (entries : List (ℕ × String Global)) (answers : List (ℕ × Option (String Global))) (message : Message) (stored : IsStored received sent entries answers) where
-  next_map : fold after_one [] (received ++ message ∷ []) ≡ after_one entries message
-  next_map = fold-append after_one [] received (message ∷ []) ∙ ap (λ es. after_one es message) (sym stored.map_is)
-
-  next_answers : filter_map answer_in (received ++ message ∷ []) ≡ answers ++ filter_map answer_in (message ∷ [])
-  next_answers = filter_map-append answer_in received (message ∷ []) ∙ ap (λ l. l ++ filter_map answer_in (message ∷ [])) (sym stored.answers_are)
-
   -- one message more
   pub stored_more : (after : List (ℕ × String Global)) (told : List (ℕ × Option (String Global))) → after ≡ after_one entries message → told ≡ answers ++ filter_map answer_in (message ∷ []) → all_in new ≡ reply_to entries message → IsStored (received ++ message ∷ []) (sent ++ new) after told
   stored_more after told is tells replies_so = record {
     replied = map-append (λ (send : Colour × Message). reply_in send.0 send.1) sent new ∙ ap (λ l. l ++ all_in new) stored.replied ∙ ap (λ l. replies [] received ++ l) (replies_so ∙ ap (λ es. reply_to es message) stored.map_is) ∙ sym (replies_push [] received message);
-    map_is = is ∙ sym next_map;
-    answers_are = tells ∙ sym next_answers;
+    map_is = is ∙ sym (fold-append after_one [] received (message ∷ []) ∙ ap (λ es. after_one es message) (sym stored.map_is));
+    answers_are = tells ∙ sym (filter_map-append answer_in received (message ∷ []) ∙ ap (λ l. l ++ filter_map answer_in (message ∷ [])) (sym stored.answers_are));
   }
 
   -- and what two facts say of it that come one after the other

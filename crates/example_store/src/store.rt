@@ -4,7 +4,7 @@ ghost use Rattle.example_store.specs.declared.store.TheConstants.{BUCKETS, CLIEN
 ghost use Rattle.example_store.specs.Stores.{IsPlaced, IsStored, event_of, found_in, text_of};
 
 use crate::message::Message;
-use mely_actor::{Actor, Place, Sends};
+use mely_actor::{Actor, Begins, Place, Sends};
 use mely_event::{Colour, Event, Memory};
 use std::alloc::Global;
 use std::collections::BTreeMap;
@@ -51,13 +51,6 @@ impl Actor for Store {
         Event { handler, arg }
     }
 
-    fn begin(&self, alloc: Global, _colour: Colour) -> Result<Slot, Memory> {
-        Ok(Slot {
-            map: BTreeMap::new(alloc),
-            answers: Vec::new(alloc),
-        })
-    }
-
     fn on(
         &self,
         _place: Place,
@@ -77,6 +70,15 @@ impl Actor for Store {
             Message::Answer(key, found) => slot.answers.push((key, found))?,
         }
         Ok(())
+    }
+}
+
+impl Begins for Store {
+    fn begin(&self, alloc: Global, _colour: Colour) -> Result<Slot, Memory> {
+        Ok(Slot {
+            map: BTreeMap::new(alloc),
+            answers: Vec::new(alloc),
+        })
     }
 }
 

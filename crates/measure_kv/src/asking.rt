@@ -7,7 +7,7 @@ ghost use Rattle.measure_kv.specs.declared.asking.TheConstants.{BUCKETS, CLIENTS
 ghost use Rattle.measure_kv.specs.Asks.{IsPlaced, as_events, asks_of, event_of};
 
 use crate::message::Message;
-use mely_actor::{Actor, Place, Sends, run_actors};
+use mely_actor::{Actor, Begins, Place, Sends, run_actors};
 use mely_event::{Colour, Event, Handlers, Memory};
 use mely_history::{Setup, Shape};
 use std::alloc::Global;
@@ -76,15 +76,6 @@ impl Actor for Asking {
         }
     }
 
-    fn begin(&self, alloc: Global, _colour: Colour) -> Result<Slot, Memory> {
-        Ok(Slot {
-            map: HashMap::new(alloc),
-            received: 0,
-            found: 0,
-            sum: 0,
-        })
-    }
-
     fn on(
         &self,
         place: Place,
@@ -113,6 +104,17 @@ impl Actor for Asking {
             .wrapping_add(drawn_after((key % 4_294_967_296) as u32, self.rounds));
         slot.received = slot.received.saturating_add(1);
         Ok(())
+    }
+}
+
+impl Begins for Asking {
+    fn begin(&self, alloc: Global, _colour: Colour) -> Result<Slot, Memory> {
+        Ok(Slot {
+            map: HashMap::new(alloc),
+            received: 0,
+            found: 0,
+            sum: 0,
+        })
     }
 }
 

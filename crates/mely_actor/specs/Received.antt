@@ -1,5 +1,5 @@
 -- What a run of actors leaves.
-use Rattle.std.specs.Prelude.{◌≡◌, ◌<◌, ◌+◌, ℕ, List, [], Option, Some, false, length, map, slice_get, sum_by}
+use Rattle.std.specs.Prelude.{◌≡◌, ◌<◌, ◌+◌, ◌⊎◌, ℕ, List, [], Option, Some, false, length, map, slice_get, sum_by}
 use Rattle.std.specs.List.{AllByRecursion}
 use Rattle.mely_event.specs.declared.colour.Colour.{Colour}
 use Rattle.mely_history.specs.History.{registered_of}
@@ -12,6 +12,7 @@ use Rattle.mely_app.specs.Puts.{sum_colours}
 use Rattle.mely_actor.specs.declared.actor.Actor.{Ghosts as ActorWords}
 use Rattle.mely_actor.specs.declared.load.Plan.{Plan}
 use Rattle.mely_actor.specs.KeptState.{KeptState}
+use Rattle.mely_actor.specs.Running.{Keeps}
 use Rattle.mely_actor.specs.Sending.{IsThere, count_to, is_sent_by, messages_in, none_sent, sends_to, sent_by}
 use Rattle.mely_actor.specs.Serial.{ReceivedAsByOne}
 
@@ -29,6 +30,20 @@ module _ {A V M : Type 0} (a : ActorWords A V M) where
     pub many : length states ≡ count
     pub each : (i : ℕ) (state : KeptState A M V) → slice_get states i ≡ Some state
         → IsFresh plan (record { 0 = i }) state
+
+  -- these are values of the first colours, so many, which have received and sent nothing
+  pub record AreBegun (actor : A) (count : ℕ) (values : List V) : Type 0 where
+    pub many : length values ≡ count
+    pub each : (i : ℕ) (value : V) → slice_get values i ≡ Some value
+        → a.kept actor (record { 0 = i }) [] [] value
+
+  -- What is left of a run for which there was no memory: nothing, or for each colour a value that
+  -- keeps the author's fact over some messages that the colour has received, and some that it has
+  -- sent; or none, where memory was wanted on the colour itself.
+  pub record AreLeft (actor : A) (count : ℕ) (values : List (Option V)) : Type 0 where
+    pub many : (values ≡ []) ⊎ (length values ≡ count)
+    pub each : (i : ℕ) (value : V) → slice_get values i ≡ Some (Some value)
+        → Keeps a actor (record { 0 = i }) value
 
   -- There is a value for each colour, and a legal history for each shard, in which nothing runs or
   -- waits. What each colour received is what its history says was registered on it, without the
@@ -75,3 +90,11 @@ pub record AreValues {A M V : Type 0} (states : List (KeptState A M V)) (values 
       → slice_get values i ≡ Some value → value ≡ state.value
   pub well : (i : ℕ) (state : KeptState A M V) → slice_get states i ≡ Some state
       → state.failed ≡ false
+
+-- each value is that of its state, and there is one unless the state has failed
+pub record AreTaken {A M V : Type 0} (a : ActorWords A V M) (states : List (KeptState A M V))
+    (values : List (Option V)) : Type 0 where
+  pub many : length values ≡ length states
+  pub each : (i : ℕ) (state : KeptState A M V) (value : V) → slice_get states i ≡ Some state
+      → slice_get values i ≡ Some (Some value)
+      → Keeps a state.plan.actor state.log.colour value

@@ -1,5 +1,5 @@
 -- What an event does to the state of its colour, and what it puts.
-use Rattle.std.specs.Prelude.{◌≡◌, ◌+◌, ◌++◌, List, [], ◌∷◌, Option, None, Some, Bool, false, length}
+use Rattle.std.specs.Prelude.{◌≡◌, ◌+◌, ◌++◌, ℕ, List, [], ◌∷◌, Option, None, Some, Bool, false, length}
 use Rattle.std.specs.List.{AllByRecursion}
 use Rattle.mely_event.specs.declared.colour.Colour.{Colour}
 use Rattle.mely_event.specs.declared.event.Event.{Event}
@@ -56,3 +56,15 @@ module _ {A V M : Type 0} (a : ActorWords A V M) where
   abbrev pub MayWait : Plan A M → Bool → List (Colour × M) → Type 0
   MayWait plan failed waiting = failed ≡ false → AllByRecursion (MaySend (a.colours_of plan.actor)
       (a.rows_of plan.actor) a.event_of (a.sound plan.actor)) waiting
+
+  -- the value keeps the author's fact over some messages that its colour has received, and some that
+  -- it has sent
+  pub record Keeps (actor : A) (colour : Colour) (value : V) : Type 0 where
+    pub received : List M
+    pub sent : List (Colour × M)
+    pub kept : a.kept actor colour received sent value
+
+  -- so it does over as many received messages as were counted, but where the state has failed
+  abbrev pub HasKept : A → Colour → ℕ → Bool → V → Type 0
+  HasKept actor colour count failed value = failed ≡ false → (keeps : Keeps actor colour value)
+      × (length keeps.received ≡ count)

@@ -55,15 +55,6 @@ pub trait Actor {
     fn event(message: &Self::Message) -> Event
         ensures { result ≡ event_of message.now };
 
-    /// The value of a colour that has received and sent nothing.
-    ///
-    /// # Errors
-    ///
-    /// There was no memory.
-    fn begin(&self, alloc: Global, colour: Colour) -> Result<Self::Value, Memory>
-        requires { colour.0 < colours_of self.now }
-        ensures { IfOk result (λ value. kept self.now colour [] [] value) };
-
     /// A colour receives a message, and sends any number.
     ///
     /// # Errors
@@ -86,4 +77,16 @@ pub trait Actor {
             → kept self.now place.colour (received ++ message ∷ []) (sent ++ sends.new) value.new) }
         ensures allowed { OnOk result (AllByRecursion (MaySend (colours_of self.now)
             (rows_of self.now) event_of (sound self.now)) sends.new) };
+}
+
+/// Actors whose values a run can make by itself.
+pub trait Begins: Actor {
+    /// The value of a colour that has received and sent nothing.
+    ///
+    /// # Errors
+    ///
+    /// There was no memory.
+    fn begin(&self, alloc: Global, colour: Colour) -> Result<Self::Value, Memory>
+        requires { colour.0 < Self.colours_of self.now }
+        ensures { IfOk result (λ value. Self.kept self.now colour [] [] value) };
 }

@@ -1,8 +1,8 @@
 //! The state of a colour.
-ghost use Rattle.std.specs.Prelude.{◌≡◌, ◌≤◌, ◌++◌, ◌∷◌, [], IfSome, None, Some, false, length};
+ghost use Rattle.std.specs.Prelude.{◌≡◌, ◌≤◌, ◌++◌, ◌∷◌, [], IfSome, IsSome, None, Some, false, length};
 ghost use Rattle.mely_actor.specs.declared.load.Load.TheVariants.{Message, Posts};
 ghost use Rattle.mely_actor.specs.Loads.{ArePutsFit, FitsLoad, FitsMessage, FitsNothing, FitsPosts, Serves};
-ghost use Rattle.mely_actor.specs.Running.{Runs};
+ghost use Rattle.mely_actor.specs.Running.{Keeps, Runs};
 
 use crate::actor::{Actor, Place};
 use crate::load::{Load, Plan, TURN};
@@ -31,7 +31,7 @@ pub struct Kept<A: Actor> {
 
 impl<A: Actor> Model for Kept<A> {
     ghost use Rattle.mely_actor.specs.KeptState.{KeptState};
-    ghost use Rattle.mely_actor.specs.Running.{MayWait};
+    ghost use Rattle.mely_actor.specs.Running.{HasKept, MayWait};
 
     ghost Value = { KeptState A A.Message A.Value };
 
@@ -44,7 +44,10 @@ impl<A: Actor> Model for Kept<A> {
       failed = kept.failed;
     } };
 
-    ghost invariant = { λ kept. MayWait A.Actor kept.plan.value kept.failed kept.waiting.items };
+    ghost invariant = { λ kept.
+        (MayWait A.Actor kept.plan.value kept.failed kept.waiting.items)
+        × (HasKept A.Actor kept.plan.value.actor kept.log.colour kept.count kept.failed
+        kept.value) };
 }
 
 impl<A: Actor> Kept<A> {
@@ -55,6 +58,7 @@ impl<A: Actor> Kept<A> {
         plan: &Plan<A, A::Message>,
         value: A::Value,
     ) -> Kept<A>
+        requires { A.kept plan.now.actor colour [] [] value }
         ensures { result ≡ record {
           log = record { colour = colour; events = [] };
           plan = plan.now;
@@ -173,10 +177,19 @@ impl<A: Actor> Kept<A> {
         }
     }
 
+    /// Whether memory was wanted.
+    pub(crate) fn has_failed(&self) -> bool
+        ensures { result ≡ self.now.failed }
+    {
+        self.failed
+    }
+
     /// The value, where no memory was wanted.
     pub(crate) fn into_value(self) -> Option<A::Value>
         ensures value { IfSome result (λ value. value ≡ self.value) }
         ensures well { IfSome result (λ value. self.failed ≡ false) }
+        ensures keeps { IfSome result (Keeps A.Actor self.plan.actor self.log.colour) }
+        ensures there { self.failed ≡ false → IsSome result }
     {
         let Kept {
             log: _,

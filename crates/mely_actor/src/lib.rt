@@ -1,10 +1,10 @@
 //! Actors with data: a layer over `mely_app` in which an author writes a type of value, a type of
 //! message, and one fact about them.
 //!
-//! An [`Actor`] says how the value of a colour begins and what a message does to it, and what it
-//! keeps over the messages that it has received and those that it has sent. [`run_actors`] posts
-//! the first messages, as many as are given, runs all on threads until nothing is left, and hands
-//! out the values ([`Ended`]), as here in `example_bank`:
+//! An [`Actor`] says what a message does to the value of a colour, and what that keeps over the
+//! messages that it has received and those that it has sent; [`Begins`] says how a value begins.
+//! [`run_actors`] posts the first messages, as many as are given, runs all on threads until nothing
+//! is left, and hands out the values ([`Ended`]), as here in `example_bank`:
 //!
 //! ```text
 //! let Ok(setup) = Setup::new(&shape, ACCOUNTS, handlers, 0) else {
@@ -23,6 +23,12 @@
 //! another is what that one sent it, in the order in which it sent it, over all its messages and
 //! from whichever cores its turns sent them; and what was posted to a colour came in the order in
 //! which it was posted.
+//!
+//! [`run_values`] takes the values that the colours begin with, as what another run left. Where
+//! memory is wanted it hands back the values that there are ([`Halted`]), each with the author's
+//! fact over some messages that its colour received and sent
+//! ([`AreLeft`](../specs/Received.antt)); those of colours on which it was wanted are lost, and all
+//! are where it was wanted to begin.
 //!
 //! Whatever threads made the run, one thread might have received all its messages, one after
 //! another ([`ReceivedAsByOne`](../specs/Serial.antt), `serial` of `AreKept`). There is one order
@@ -54,6 +60,6 @@ mod running;
 mod sends;
 mod waiting;
 
-pub use actor::{Actor, Place};
-pub use running::{Ended, run_actors};
+pub use actor::{Actor, Begins, Place};
+pub use running::{Ended, Halted, run_actors, run_values};
 pub use sends::Sends;

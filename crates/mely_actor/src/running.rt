@@ -1,16 +1,16 @@
 //! A run of actors.
-ghost use Rattle.std.specs.Prelude.{◌≡◌, ◌<◌, ◌≤◌, IfOk, length, map};
+ghost use Rattle.std.specs.Prelude.{◌≡◌, ◌<◌, ◌≤◌, [], ℕ, IfErr, IfOk, IsTrue, Some, false, length, map, slice_get, vec_capacity};
 ghost use Rattle.std.specs.List.{AllByRecursion};
 ghost use Rattle.mely_event.specs.HandlerTable.{rows_of};
 ghost use Rattle.mely_history.specs.Setup.{colours_of, handlers_of, is_listed};
-ghost use Rattle.mely_actor.specs.Received.{AreKept, AreMade, AreValues};
+ghost use Rattle.mely_actor.specs.Received.{AreBegun, AreKept, AreLeft, AreMade, AreTaken, AreValues};
 ghost use Rattle.mely_actor.specs.Sending.{MaySend};
 
 use crate::acting::Acting;
-use crate::actor::Actor;
+use crate::actor::{Actor, Begins};
 use crate::kept::Kept;
 use crate::load::{FIRST, Load, Plan};
-use mely_app::run_states;
+use mely_app::{RunError, run_states};
 use mely_event::{Colour, Memory};
 use mely_history::{History, Setup};
 use std::alloc::Global;
@@ -29,48 +29,101 @@ pub struct Ended<V> {
     pub histories: Vec<History>,
 }
 
-/// The states of all colours, in ascending order.
+/// What is left of a run of actors for which there was no memory.
+#[derive(Drop)]
+pub struct Halted<V> {
+    /// The value of each colour, but for those on which memory was wanted, which have none. There
+    /// are none at all where memory was wanted to begin: what was given is dropped then.
+    pub values: Vec<Option<V>>,
+}
+
+/// The values of all colours, in ascending order.
 ///
 /// # Errors
 ///
 /// There was no memory.
-fn make_states<A: Actor>(
-    alloc: Global,
-    setup: &Setup,
-    plan: &Plan<A, A::Message>,
-) -> Result<Vec<Kept<A>>, Memory>
-    requires { colours_of setup.now ≡ A.colours_of plan.now.actor }
-    ensures { IfOk result (λ states. AreMade A.Actor plan.now (colours_of setup.now)
-        states.items) }
+fn begin_all<A: Begins>(alloc: Global, setup: &Setup, actor: &A) -> Result<Vec<A::Value>, Memory>
+    requires { colours_of setup.now ≡ A.colours_of actor.now }
+    ensures { IfOk result (λ values. AreBegun A.Actor actor.now (colours_of setup.now)
+        values.items) }
 {
-    let mut states = Vec::new(alloc);
+    let mut values = Vec::new(alloc);
     'colours: for number in 0..setup.colours() {
         let colour = Colour(number as u16);
-        let value = plan.actor.begin(alloc, colour)?;
+        values.push(actor.begin(alloc, colour)?)?;
+    }
+    Ok(values)
+}
+
+/// The states of all colours, with these values.
+///
+/// # Errors
+///
+/// There was no memory: the values are dropped.
+fn make_states<A: Actor>(
+    alloc: Global,
+    plan: &Plan<A, A::Message>,
+    values: Vec<A::Value>,
+) -> Result<Vec<Kept<A>>, Memory>
+    requires few { length values.items ≤ 65536 }
+    requires begun { AreBegun A.Actor plan.now.actor (length values.items) values.items }
+    ensures { IfOk result (λ states. AreMade A.Actor plan.now (length values.items)
+        states.items) }
+{
+    let mut states = Vec::with_capacity(alloc, values.len())?;
+    let mut number: u32 = 0;
+    'values: for value in values {
+        let colour = Colour(number as u16);
         states.push(Kept::new(alloc, colour, plan, value))?;
+        number += 1;
     }
     Ok(states)
 }
 
-/// The values of the states, where none of them has failed.
-///
-/// # Errors
-///
-/// One has, or there was no memory.
-fn take_values<A: Actor + Drop>(
-    alloc: Global,
-    states: Vec<Kept<A>>,
-) -> Result<Vec<A::Value>, Memory>
-    ensures { IfOk result (λ values. AreValues states.items values.items) }
+/// Whether none of the states has failed.
+fn are_well<A: Actor>(states: &[Kept<A>]) -> bool
+    ensures { IsTrue result → (number : ℕ) (state : _) → slice_get states.now number ≡ Some state
+        → state.failed ≡ false }
 {
-    let mut values = Vec::new(alloc);
+    for state in states {
+        if state.has_failed() {
+            return false;
+        }
+    }
+    true
+}
+
+/// Moves the values of states that haven't failed into a list that has room for them.
+fn take_values<A: Actor + Drop>(mut values: Vec<A::Value>, states: Vec<Kept<A>>) -> Vec<A::Value>
+    requires empty { values.items ≡ [] }
+    requires room { length states.items ≤ vec_capacity values }
+    requires well { (number : ℕ) (state : _) → slice_get states.items number ≡ Some state
+        → state.failed ≡ false }
+    ensures { AreValues states.items result.items }
+{
     'states: for state in states {
         let Some(value) = state.into_value() else {
-            return Err(Memory);
+            unreachable!()
         };
-        values.push(value)?;
+        values.push_reserved(value);
     }
-    Ok(values)
+    values
+}
+
+/// Moves the values of states into a list that has room for them: there is none of a state that has
+/// failed.
+fn take_left<A: Actor + Drop>(
+    mut values: Vec<Option<A::Value>>,
+    states: Vec<Kept<A>>,
+) -> Vec<Option<A::Value>>
+    requires empty { values.items ≡ [] }
+    requires room { length states.items ≤ vec_capacity values }
+    ensures { AreTaken A.Actor states.items result.items }
+{
+    'states: for state in states {
+        values.push_reserved(state.into_value());
+    }
+    values
 }
 
 /// Runs actors, a colour each, from the messages that are posted to begin with, with a thread for
@@ -82,8 +135,8 @@ fn take_values<A: Actor + Drop>(
 /// # Errors
 ///
 /// There was no memory, to begin, for an event or for a value on the way, or a colour was sent more
-/// messages than can be counted, 2^64 - 2: what was done is dropped.
-pub fn run_actors<R: Threads + Wait + Sync, A: Actor + Drop + Sync>(
+/// messages than can be counted, 2^64 - 2: what was done is dropped. [`run_values`] hands it back.
+pub fn run_actors<R: Threads + Wait + Sync, A: Begins + Drop + Sync>(
     rt: &R,
     alloc: Global,
     setup: &Setup,
@@ -96,19 +149,71 @@ where
     requires colours { colours_of setup.now ≡ A.colours_of actor }
     requires rows { A.rows_of actor ≤ length (rows_of (handlers_of setup.now)) }
     requires own { 0 < A.rows_of actor }
+    requires posts { AllByRecursion (MaySend (A.colours_of actor) (A.rows_of actor)
+        A.event_of (A.sound actor)) posts.items }
+    ensures kept { IfOk result (λ ended. AreKept A.Actor actor setup.now posts.items
+        (map (λ history. history.items) ended.histories.items) ended.values.items) }
+    ensures listed { IfOk result (λ ended. AllByRecursion (λ history. history.listed
+        ≡ is_listed setup.now) ended.histories.items) }
+{
+    let values = begin_all(alloc, setup, &actor)?;
+    match run_values(rt, alloc, setup, actor, values, posts) {
+        Ok(ended) => Ok(ended),
+        Err(_) => Err(Memory),
+    }
+}
+
+/// Runs actors as [`run_actors`] does, on values that the caller has made: so a run may begin with
+/// what another one left, or with what was kept elsewhere.
+///
+/// # Errors
+///
+/// There was no memory, to begin, for an event or for a value on the way, or a colour was sent more
+/// messages than can be counted: see [`Halted`], which hands back the values that there are. What
+/// was sent and not received is dropped.
+pub fn run_values<R: Threads + Wait + Sync, A: Actor + Drop + Sync>(
+    rt: &R,
+    alloc: Global,
+    setup: &Setup,
+    actor: A,
+    values: Vec<A::Value>,
+    posts: Vec<(Colour, A::Message)>,
+) -> Result<Ended<A::Value>, Halted<A::Value>>
+where
+    A::Value: Send,
+    A::Message: Send,
+    requires colours { colours_of setup.now ≡ A.colours_of actor }
+    requires rows { A.rows_of actor ≤ length (rows_of (handlers_of setup.now)) }
+    requires own { 0 < A.rows_of actor }
+    requires begun { AreBegun A.Actor actor (A.colours_of actor) values.items }
     requires posts { AllByRecursion (MaySend (A.colours_of actor) (A.rows_of actor) A.event_of
         (A.sound actor)) posts.items }
     ensures kept { IfOk result (λ ended. AreKept A.Actor actor setup.now posts.items
         (map (λ history. history.items) ended.histories.items) ended.values.items) }
     ensures listed { IfOk result (λ ended. AllByRecursion (λ history. history.listed
         ≡ is_listed setup.now) ended.histories.items) }
+    ensures left { IfErr result (λ halted. AreLeft A.Actor actor (A.colours_of actor)
+        halted.values.items) }
 {
+    let none = Halted {
+        values: Vec::new(alloc),
+    };
+    let many = values.len();
+    // room for what is handed out, whether it comes to its end or not
+    let Ok(room) = Vec::with_capacity(alloc, many) else {
+        return Err(none);
+    };
+    let Ok(left) = Vec::with_capacity(alloc, many) else {
+        return Err(none);
+    };
     let plan = Plan { actor, posts };
-    let states = make_states(alloc, setup, &plan)?;
+    let Ok(states) = make_states(alloc, &plan, values) else {
+        return Err(none);
+    };
     let Plan { actor, posts } = plan;
     let load = Load::Posts(VecDeque::from(posts));
     let acting = Acting { alloc, actor };
-    let Ok(ended) = run_states(
+    match run_states(
         rt,
         alloc,
         setup,
@@ -117,10 +222,22 @@ where
         Colour(0),
         FIRST,
         Some(load),
-    ) else {
-        return Err(Memory);
-    };
-    let mely_app::Ended { states, histories } = ended;
-    let values = take_values(alloc, states)?;
-    Ok(Ended { values, histories })
+    ) {
+        Ok(ended) => {
+            let mely_app::Ended { states, histories } = ended;
+            if !are_well(states.as_slice()) {
+                return Err(Halted {
+                    values: take_left(left, states),
+                });
+            }
+            Ok(Ended {
+                values: take_values(room, states),
+                histories,
+            })
+        }
+        Err(RunError::CutShort(unfinished)) => Err(Halted {
+            values: take_left(left, unfinished.states),
+        }),
+        Err(RunError::NotStarted(_)) => Err(none),
+    }
 }

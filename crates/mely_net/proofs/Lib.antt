@@ -7,3 +7,5 @@ mod PickLemmas
 mod PartLemmas
 mod ServedLemmas
 mod BoundLemmas
+mod FreshLemmas
+mod RunsLemmas

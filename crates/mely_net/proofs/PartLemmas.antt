@@ -1,7 +1,8 @@
 -- What the desk, a cell and a connection keep at a message.
-use Rattle.std.proofs.Common.{◌≡◌, ◌<◌, ◌+◌, ◌-◌, ℕ, List, [], ◌∷◌, ◌++◌, None, map, refl, sym, ◌∙◌, ap, subst}
+use Rattle.std.proofs.Common.{◌≡◌, ◌<◌, ◌+◌, ◌-◌, ℕ, List, [], ◌∷◌, ◌++◌, None, length, map, refl, sym, ◌∙◌, ap, subst, arith}
 use Rattle.std.proofs.lemmas.List.{append-nil, map-append}
 use Rattle.std.proofs.lemmas.List.Elements.{filter_map-append}
+use Rattle.std.proofs.lemmas.Option.{slice_get_within}
 use Rattle.std.specs.List.{AllByRecursion, cons_option}
 use Rattle.mely_event.specs.declared.colour.Colour.{Colour}
 use Rattle.sws_link.specs.declared.Link.{Ghosts as LinkWords}
@@ -9,10 +10,11 @@ use Rattle.mely_net.specs.declared.client.Client.{Client}
 use Rattle.mely_net.specs.declared.message.Message.{Message}
 use Rattle.mely_net.specs.declared.message.Message.TheVariants.{Poll, Accept, Wait, Open, Wake, Leave, Ask, Reply}
 use Rattle.mely_net.specs.declared.part.Part.{Part}
+use Rattle.mely_net.specs.declared.part.Part.TheVariants as part
 use Rattle.mely_net.specs.Clients.{shown_client, to_come}
-use Rattle.mely_net.specs.Exchanges.{Exchange, Steps}
+use Rattle.mely_net.specs.Exchanges.{Exchange, IsAt, Steps}
 use Rattle.mely_net.specs.Messages.{IsQuiet, IsSigned, at, replies_in, replies_sent, reply_in, request_in, requests_in, requests_sent}
-use Rattle.mely_net.specs.Parts.{Gets, IsCell, IsConnection, IsPart, KeepsPart, Sends}
+use Rattle.mely_net.specs.Parts.{Gets, IsCell, IsConnection, IsFresh, IsPart, KeepsPart, Sends}
 use Rattle.mely_net.specs.Rules.{Rules}
 use Rattle.mely_net.specs.Talks.{ClientView, IsTalk, replies_of}
 use Rattle.mely_net.proofs.FrameLemmas.{all_both}
@@ -50,20 +52,20 @@ module _ {Q P C : Type 0} (rules : Rules Q P C) where
 module _ {Q P C W L : Type 0} (rules : Rules Q P C) where
   module _ (l : LinkWords L) (colour : Colour) (received : List (Message W L Q P)) (sent new : List (Colour × Message W L Q P)) where
     -- a cell that gets what is no request
-    pub cell_same : (message : Message W L Q P) (value : C) → request_in message ≡ None → new ≡ [] → IsCell rules l colour received sent value → IsCell rules l colour (received ++ message ∷ []) (sent ++ new) value
-    cell_same message value no_request none kept = record {
+    pub cell_same : (message : Message W L Q P) (first value : C) → request_in message ≡ None → new ≡ [] → IsCell rules l colour received sent first value → IsCell rules l colour (received ++ message ∷ []) (sent ++ new) first value
+    cell_same message first value no_request none kept = record {
       behind = kept.behind;
       there = kept.there;
       history = kept.history;
       asked = filter_map-append request_in received (message ∷ []) ∙ ap (λ o. requests_in received ++ cons_option o []) no_request ∙ append-nil (requests_in received) ∙ kept.asked;
       replied = ap (λ s. replies_sent (sent ++ s)) none ∙ ap replies_sent (append-nil sent) ∙ kept.replied;
-      is_history = kept.is_history;
+      steps = kept.steps;
     }
 
     -- one that is asked and replies
-    pub cell_asked : (value after : C) (from : ℕ) (request : Q) (reply : P) (to : Colour) → to.0 ≡ from + rules.cells + 1 → rules.Serves (colour.0 - 1) value request after reply
-        → new ≡ (to, Reply (colour.0 - 1) reply) ∷ [] → IsCell rules l colour received sent value → IsCell rules l colour (received ++ Ask from request ∷ []) (sent ++ new) after
-    cell_asked value after from request reply to to_is serves is kept =
+    pub cell_asked : (first value after : C) (from : ℕ) (request : Q) (reply : P) (to : Colour) → to.0 ≡ from + rules.cells + 1 → rules.Serves (colour.0 - 1) value request after reply
+        → new ≡ (to, Reply (colour.0 - 1) reply) ∷ [] → IsCell rules l colour received sent first value → IsCell rules l colour (received ++ Ask from request ∷ []) (sent ++ new) first after
+    cell_asked first value after from request reply to to_is serves is kept =
         let one : Exchange Q P = record { peer = from; request = request; reply = reply } in
         record {
           behind = kept.behind;
@@ -74,11 +76,7 @@ module _ {Q P C W L : Type 0} (rules : Rules Q P C) where
               ∙ ap (λ r. r ++ (to.0, reply) ∷ []) kept.replied
               ∙ ap (λ n. map (λ (r : ℕ × P). (r.0 + rules.cells + 1, r.1)) (replies_of kept.history) ++ (n, reply) ∷ []) to_is
               ∙ sym (ap (map (λ (r : ℕ × P). (r.0 + rules.cells + 1, r.1))) (map-append (λ (e : Exchange Q P). (e.peer, e.reply)) kept.history (one ∷ [])) ∙ map-append (λ (r : ℕ × P). (r.0 + rules.cells + 1, r.1)) (replies_of kept.history) (replies_of (one ∷ [])));
-          is_history = record {
-            first = kept.is_history.first;
-            begins = kept.is_history.begins;
-            steps = steps_push rules (colour.0 - 1) kept.history kept.is_history.first value after one kept.is_history.steps serves;
-          };
+          steps = steps_push rules (colour.0 - 1) kept.history first value after one kept.steps serves;
         }
 
     -- a connection that gets a message, and sends
@@ -110,9 +108,36 @@ quiet_signed cells sender [] quiet = tt
 quiet_signed cells sender (send ∷ sends) quiet = (quiet_one cells sender send.1 quiet.0, quiet_signed cells sender sends quiet.1)
 
 -- a colour keeps what its part does, and signs what it sends
-module _ {Q P C W L : Type 0} (rules : Rules Q P C) (l : LinkWords L) (colour : Colour) (received after_received : List (Message W L Q P)) (sent new : List (Colour × Message W L Q P)) (before after : Part C W L l) (signed : AllByRecursion (λ send. IsSigned rules.cells colour send.1) new) where
-  pub part_goes : (IsPart rules l colour received sent before → IsPart rules l colour after_received (sent ++ new) after) → KeepsPart rules l colour received sent before → KeepsPart rules l colour after_received (sent ++ new) after
+module _ {Q P C W L : Type 0} (rules : Rules Q P C) (l : LinkWords L) (Begins : ℕ → C → Type 0) (colour : Colour) (received after_received : List (Message W L Q P)) (sent new : List (Colour × Message W L Q P)) (before after : Part C W L l) (signed : AllByRecursion (λ send. IsSigned rules.cells colour send.1) new) where
+  pub part_goes : (IsPart rules l Begins colour received sent before → IsPart rules l Begins colour after_received (sent ++ new) after) → KeepsPart rules l Begins colour received sent before → KeepsPart rules l Begins colour after_received (sent ++ new) after
   part_goes goes kept = record {
     signed = all_both (λ (send : Colour × Message W L Q P). IsSigned rules.cells colour send.1) sent new kept.signed signed;
     is = goes kept.is;
   }
+
+-- what a run begins with keeps all that is asked of it
+module _ {Q P C W L : Type 0} (rules : Rules Q P C) (l : LinkWords L) (cells : List C) (many : length cells ≡ rules.cells) where
+  fresh_part : (number : ℕ) (one : Part C W L l) → IsFresh cells number one → IsPart rules l (IsAt cells) (record { 0 = number }) (let nothing : List (Message W L Q P) = [] in nothing) [] one
+  fresh_part number (part.Desk desk) is = is
+  fresh_part number (part.Cell value) is = record {
+    first = value;
+    begins = is.1;
+    is = record {
+      behind = is.0;
+      there = let some = is.0 in let within = slice_get_within cells (number - 1) value is.1 in omega (arith, some, within, many);
+      history = [];
+      asked = refl;
+      replied = refl;
+      steps = refl;
+    };
+  }
+  fresh_part number (part.Client client) is = record {
+    behind = let far = is.0 in omega (arith, far, many);
+    asks = [];
+    asked = refl;
+    there = tt;
+    talk = subst (IsTalk rules [] []) (sym is.1) (talk_begun rules);
+  }
+
+  pub fresh_keeps : (number : ℕ) (one : Part C W L l) → IsFresh cells number one → KeepsPart rules l (IsAt cells) (record { 0 = number }) (let nothing : List (Message W L Q P) = [] in nothing) [] one
+  fresh_keeps number one is = record { signed = tt; is = fresh_part number one is }

@@ -10,12 +10,13 @@ use Rattle.mely_history.specs.declared.entry.Entry.{Entry}
 use Rattle.mely_history.specs.declared.setup.Setup.{Setup}
 use Rattle.mely_history.specs.Setup.{colours_of}
 use Rattle.mely_actor.specs.declared.actor.Actor.{Ghosts as ActorWords}
-use Rattle.mely_actor.specs.Received.{AreKept}
+use Rattle.mely_actor.specs.Received.{AreKept, AreLeft}
 use Rattle.mely_actor.specs.Sending.{sends_to}
 use Rattle.sws_link.specs.Links.{LinkContents}
 use Rattle.sws_link.specs.Worlds.{WorldContents}
 use Rattle.sws_link.specs.declared.Link.{Ghosts as LinkWords}
 use Rattle.mely_net.specs.declared.client.Client.{Client}
+use Rattle.mely_net.specs.declared.desk.Desk.{Desk}
 use Rattle.mely_net.specs.declared.message.Held.{Held}
 use Rattle.mely_net.specs.declared.message.Message.{Message}
 use Rattle.mely_net.specs.declared.message.Message.TheVariants.{Poll, Accept, Wait, Open, Wake, Leave, Ask, Reply}
@@ -25,9 +26,9 @@ use Rattle.mely_net.specs.Cutting.{AreFrames}
 use Rattle.mely_net.specs.Exchanges.{Exchange, IsHistory, exchanges_with}
 use Rattle.mely_net.specs.Lines.{IsFramed, Line, exchanges_in, shown_of, shown_to_fault}
 use Rattle.mely_net.specs.Messages.{IsSigned, MayGet, at, replies_in, replies_sent, reply_in, request_in, requests_in, requests_sent}
-use Rattle.mely_net.specs.Parts.{IsCell, IsConnection, IsPart, KeepsPart}
+use Rattle.mely_net.specs.Parts.{HasBegun, IsConnection, IsPart, KeepsPart}
 use Rattle.mely_net.specs.Rules.{Rules}
-use Rattle.mely_net.specs.Served.{HasServed, IsAnswered}
+use Rattle.mely_net.specs.Served.{HasHalted, HasServedFrom, IsAnswered}
 use Rattle.mely_net.specs.Talks.{IsKnown, IsTold, Request, asked_by, frame_of, replies_of, requests_of, told_by}
 use Rattle.mely_net.proofs.PickLemmas.{picked_from, picked_mapped, picked_same, picked_twice, all_the_same}
 
@@ -221,25 +222,30 @@ post_none : {M X : Type 0} (pick : M → Option X) (b : Bool) (message : M) → 
 post_none pick true message none = ap (λ o. cons_option o []) none
 post_none pick false message none = refl
 
-module _ {Q P C W L : Type 0} (rules : Rules Q P C) (l : LinkWords L) (c : Colour) (received : List (Message W L Q P)) (sent : List (Colour × Message W L Q P)) where
-  is_cell : (kept : Part C W L l) → 0 < c.0 → c.0 ≤ rules.cells → IsPart rules l c received sent kept → (value : C) × (kept ≡ part.Cell value) × IsCell rules l c received sent value
+module _ {Q P C W L : Type 0} (rules : Rules Q P C) (l : LinkWords L) (Begins : ℕ → C → Type 0) (c : Colour) (received : List (Message W L Q P)) (sent : List (Colour × Message W L Q P)) where
+  is_desk : (kept : Part C W L l) → c.0 ≡ 0 → IsPart rules l Begins c received sent kept → (desk : Desk W) × (kept ≡ part.Desk desk)
+  is_desk (part.Desk desk) none is = (desk, refl)
+  is_desk (part.Cell value) none is = absurd (let behind = is.is.behind in omega (arith, none, behind))
+  is_desk (part.Client client) none is = absurd (let behind = is.behind in omega (arith, none, behind))
+
+  pub is_cell : (kept : Part C W L l) → 0 < c.0 → c.0 ≤ rules.cells → IsPart rules l Begins c received sent kept → (value : C) × (kept ≡ part.Cell value) × HasBegun rules l Begins c received sent value
   is_cell (part.Desk desk) some few is = absurd (omega (arith, some, is))
   is_cell (part.Cell value) some few is = (value, refl, is)
   is_cell (part.Client client) some few is = absurd (let behind = is.behind in omega (arith, few, behind))
 
-  is_client : (kept : Part C W L l) → rules.cells < c.0 → IsPart rules l c received sent kept → (client : Client L l) × (kept ≡ part.Client client) × IsConnection rules l c received sent client
+  is_client : (kept : Part C W L l) → rules.cells < c.0 → IsPart rules l Begins c received sent kept → (client : Client L l) × (kept ≡ part.Client client) × IsConnection rules l c received sent client
   is_client (part.Desk desk) many is = absurd (omega (arith, many, is))
-  is_client (part.Cell value) many is = absurd (let there = is.there in omega (arith, many, there))
+  is_client (part.Cell value) many is = absurd (let there = is.is.there in omega (arith, many, there))
   is_client (part.Client client) many is = (client, refl, is)
 
-module _ {A Q P C W L : Type 0} (rules : Rules Q P C) (l : LinkWords L) (a : ActorWords A (Part C W L l) (Message W L Q P)) (tells : W → WorldContents) (clients : ℕ) (actor : A) (setup : Setup) (posts : List (Colour × Message W L Q P)) (held : Held W) (posted : posts ≡ (record { 0 = 0 }, Poll held) ∷ []) (histories : List (List Entry)) (parts : List (Part C W L l))
+module _ {A Q P C W L : Type 0} (rules : Rules Q P C) (l : LinkWords L) (Begins : ℕ → C → Type 0) (a : ActorWords A (Part C W L l) (Message W L Q P)) (tells : W → WorldContents) (clients : ℕ) (actor : A) (setup : Setup) (posts : List (Colour × Message W L Q P)) (held : Held W) (posted : posts ≡ (record { 0 = 0 }, Poll held) ∷ []) (histories : List (List Entry)) (parts : List (Part C W L l))
     (kept : AreKept a actor setup posts histories parts) (colours : colours_of setup ≡ rules.cells + clients + 1)
-    (keeps : (c : Colour) (received : List (Message W L Q P)) (sent : List (Colour × Message W L Q P)) (part : Part C W L l) → a.kept actor c received sent part → KeepsPart rules l c received sent part)
+    (keeps : (c : Colour) (received : List (Message W L Q P)) (sent : List (Colour × Message W L Q P)) (part : Part C W L l) → a.kept actor c received sent part → KeepsPart rules l Begins c received sent part)
     (sounds : (c : Colour) (message : Message W L Q P) → a.sound actor c message → MayGet tells l.tells l.is_shut rules.cells clients c message) where
   sound_at : (c : Colour) → c.0 < rules.cells + clients + 1 → AllByRecursion (MayGet tells l.tells l.is_shut rules.cells clients c) (kept.received c)
   sound_at c low = all_from (a.sound actor c) (MayGet tells l.tells l.is_shut rules.cells clients c) (kept.received c) (sounds c) (kept.sound c (omega (arith, low, colours)))
 
-  part_at : (c : Colour) → c.0 < rules.cells + clients + 1 → (one : Part C W L l) × (slice_get parts c.0 ≡ Some one) × KeepsPart rules l c (kept.received c) (kept.sent c) one
+  part_at : (c : Colour) → c.0 < rules.cells + clients + 1 → (one : Part C W L l) × (slice_get parts c.0 ≡ Some one) × KeepsPart rules l Begins c (kept.received c) (kept.sent c) one
   part_at c low =
       let many = kept.many in
       let there = get_there parts c.0 (omega (arith, low, many, colours)) in
@@ -248,18 +254,18 @@ module _ {A Q P C W L : Type 0} (rules : Rules Q P C) (l : LinkWords L) (a : Act
   signed_at : (c : Colour) → c.0 < rules.cells + clients + 1 → AllByRecursion (λ send. IsSigned rules.cells c send.1) (kept.sent c)
   signed_at c low = (part_at c low).2.signed
 
-  cell_at : (cell : ℕ) → cell < rules.cells → (value : C) × (slice_get parts (cell + 1) ≡ Some (part.Cell value)) × IsCell rules l (record { 0 = cell + 1 }) (kept.received (record { 0 = cell + 1 })) (kept.sent (record { 0 = cell + 1 })) value
+  cell_at : (cell : ℕ) → cell < rules.cells → (value : C) × (slice_get parts (cell + 1) ≡ Some (part.Cell value)) × HasBegun rules l Begins (record { 0 = cell + 1 }) (kept.received (record { 0 = cell + 1 })) (kept.sent (record { 0 = cell + 1 })) value
   cell_at cell low =
       let c : Colour = record { 0 = cell + 1 } in
       let at_ = part_at c (omega (arith, low)) in
-      let is = is_cell rules l c (kept.received c) (kept.sent c) at_.0 (omega arith) (omega (arith, low)) at_.2.is in
+      let is = is_cell rules l Begins c (kept.received c) (kept.sent c) at_.0 (omega arith) (omega (arith, low)) at_.2.is in
       (is.0, at_.1 ∙ ap Some is.1, is.2)
 
   client_at : (client : ℕ) → client < clients → (value : Client L l) × (slice_get parts (client + rules.cells + 1) ≡ Some (part.Client value)) × IsConnection rules l (record { 0 = client + rules.cells + 1 }) (kept.received (record { 0 = client + rules.cells + 1 })) (kept.sent (record { 0 = client + rules.cells + 1 })) value
   client_at client low =
       let c : Colour = record { 0 = client + rules.cells + 1 } in
       let at_ = part_at c (omega (arith, low)) in
-      let is = is_client rules l c (kept.received c) (kept.sent c) at_.0 (omega arith) at_.2.is in
+      let is = is_client rules l Begins c (kept.received c) (kept.sent c) at_.0 (omega arith) at_.2.is in
       (is.0, at_.1 ∙ ap Some is.1, is.2)
 
   module _ (client cell : ℕ) (low : client < clients) (few : cell < rules.cells) where
@@ -289,15 +295,15 @@ module _ {A Q P C W L : Type 0} (rules : Rules Q P C) (l : LinkWords L) (a : Act
         ∙ picked_same _ _ (kept.sent d) (all_from (λ (send : Colour × Message W L Q P). IsSigned rules.cells d send.1) _ (kept.sent d) (λ send signed. reply_own rules.cells cell d c send refl signed) (signed_at d (omega (arith, few))))
         ∙ sym (picked_twice (λ (send : Colour × Message W L Q P). at send.0.0 (reply_in send.1)) (with_peer (client + rules.cells + 1)) (kept.sent d))
 
-    asks_same : filter_map (with_peer client) (requests_of (cell_at cell few).2.history) ≡ filter_map (with_peer cell) (client_at client low).2.asks
+    asks_same : filter_map (with_peer client) (requests_of (cell_at cell few).2.is.history) ≡ filter_map (with_peer cell) (client_at client low).2.asks
     asks_same =
-        ap (filter_map (with_peer client)) (sym (cell_at cell few).2.asked) ∙ asks_met ∙ ap (filter_map (with_peer (cell + 1))) (client_at client low).2.asked
+        ap (filter_map (with_peer client)) (sym (cell_at cell few).2.is.asked) ∙ asks_met ∙ ap (filter_map (with_peer (cell + 1))) (client_at client low).2.asked
         ∙ raised (λ n. n + 1) (λ n m is. omega (arith, is)) cell (client_at client low).2.asks
 
-    replies_same : filter_map (with_peer cell) (replies_in (kept.received (record { 0 = client + rules.cells + 1 }))) ≡ filter_map (with_peer client) (replies_of (cell_at cell few).2.history)
+    replies_same : filter_map (with_peer cell) (replies_in (kept.received (record { 0 = client + rules.cells + 1 }))) ≡ filter_map (with_peer client) (replies_of (cell_at cell few).2.is.history)
     replies_same =
-        replies_met ∙ ap (filter_map (with_peer (client + rules.cells + 1))) (cell_at cell few).2.replied
-        ∙ raised (λ n. n + rules.cells + 1) (λ n m is. omega (arith, is)) client (replies_of (cell_at cell few).2.history)
+        replies_met ∙ ap (filter_map (with_peer (client + rules.cells + 1))) (cell_at cell few).2.is.replied
+        ∙ raised (λ n. n + rules.cells + 1) (λ n m is. omega (arith, is)) client (replies_of (cell_at cell few).2.is.history)
 
     -- as many requests under way as replies that went astray
     left_same : length (filter_map (with_peer cell) (asked_by (client_at client low).2.talk.under_way)) ≡ length (filter_map (with_peer cell) (client_at client low).2.talk.astray)
@@ -307,7 +313,7 @@ module _ {A Q P C W L : Type 0} (rules : Rules Q P C) (l : LinkWords L) (a : Act
         let asked = ap (λ l. length (filter_map (with_peer cell) l)) talk.spoken.asked ∙ ap length (filter_map-append (with_peer cell) (requests_of exchanges) (asked_by talk.under_way)) ∙ length-append (filter_map (with_peer cell) (requests_of exchanges)) (filter_map (with_peer cell) (asked_by talk.under_way)) in
         let replied = ap (λ l. length (filter_map (with_peer cell) l)) talk.spoken.replied ∙ ap length (filter_map-append (with_peer cell) (replies_of exchanges) talk.astray) ∙ length-append (filter_map (with_peer cell) (replies_of exchanges)) (filter_map (with_peer cell) talk.astray) in
         let here = as_many cell exchanges in
-        let there = as_many client (cell_at cell few).2.history in
+        let there = as_many client (cell_at cell few).2.is.history in
         let asks = ap length asks_same in
         let replies = ap length replies_same in
         omega (arith, asked, replied, here, there, asks, replies)
@@ -334,10 +340,10 @@ module _ {A Q P C W L : Type 0} (rules : Rules Q P C) (l : LinkWords L) (a : Act
         let talk = (client_at client low).2.talk in
         talk.spoken.replied ∙ ap (λ r. replies_of (exchanges_in talk.lines) ++ r) settled.0 ∙ append-nil (replies_of (exchanges_in talk.lines))
 
-    same_exchanges : (cell : ℕ) (few : cell < rules.cells) → exchanges_with cell (exchanges_in (client_at client low).2.talk.lines) ≡ exchanges_with client (cell_at cell few).2.history
+    same_exchanges : (cell : ℕ) (few : cell < rules.cells) → exchanges_with cell (exchanges_in (client_at client low).2.talk.lines) ≡ exchanges_with client (cell_at cell few).2.is.history
     same_exchanges cell few =
         let exchanges = exchanges_in (client_at client low).2.talk.lines in
-        let history = (cell_at cell few).2.history in
+        let history = (cell_at cell few).2.is.history in
         pairs_same (exchanges_with cell exchanges) (exchanges_with client history)
         (firsts cell exchanges ∙ ap (filter_map (with_peer cell)) (sym all_asked) ∙ sym (asks_same client cell low few) ∙ sym (firsts client history))
         (seconds cell exchanges ∙ ap (filter_map (with_peer cell)) (sym all_replied) ∙ replies_same client cell low few ∙ sym (seconds client history))
@@ -373,16 +379,16 @@ module _ {A Q P C W L : Type 0} (rules : Rules Q P C) (l : LinkWords L) (a : Act
     asked_of_all : AllByRecursion (λ one. one.peer < rules.cells) (exchanges_in (client_at client low).2.talk.lines)
     asked_of_all = all_mapped (λ (one : Exchange Q P). (one.peer, one.request)) (λ (ask : ℕ × Q). ask.0 < rules.cells) (exchanges_in (client_at client low).2.talk.lines) (subst (AllByRecursion (λ (ask : ℕ × Q). ask.0 < rules.cells)) all_asked (client_at client low).2.there)
 
-  asked_by_all : (cell : ℕ) (few : cell < rules.cells) → AllByRecursion (λ one. one.peer < clients) (cell_at cell few).2.history
+  asked_by_all : (cell : ℕ) (few : cell < rules.cells) → AllByRecursion (λ one. one.peer < clients) (cell_at cell few).2.is.history
   asked_by_all cell few =
       let c : Colour = record { 0 = cell + 1 } in
-      all_mapped (λ (one : Exchange Q P). (one.peer, one.request)) (λ (ask : ℕ × Q). ask.0 < clients) (cell_at cell few).2.history (subst (AllByRecursion (λ (ask : ℕ × Q). ask.0 < clients)) (cell_at cell few).2.asked (asks_known rules.cells tells l.tells l.is_shut clients c (kept.received c) (sound_at c (omega (arith, few)))))
+      all_mapped (λ (one : Exchange Q P). (one.peer, one.request)) (λ (ask : ℕ × Q). ask.0 < clients) (cell_at cell few).2.is.history (subst (AllByRecursion (λ (ask : ℕ × Q). ask.0 < clients)) (cell_at cell few).2.is.asked (asks_known rules.cells tells l.tells l.is_shut clients c (kept.received c) (sound_at c (omega (arith, few)))))
 
   -- the history of each cell, and the lines of each connection
-  history_at : (cell : ℕ) → (history : List (Exchange Q P)) × (cell < rules.cells → (few : cell < rules.cells) × (history ≡ (cell_at cell few).2.history))
+  history_at : (cell : ℕ) → (history : List (Exchange Q P)) × (cell < rules.cells → (few : cell < rules.cells) × (history ≡ (cell_at cell few).2.is.history))
   history_at cell = for (cases_lt cell rules.cells) where
-    for : (cell < rules.cells) ⊎ (rules.cells ≤ cell) → (history : List (Exchange Q P)) × (cell < rules.cells → (few : cell < rules.cells) × (history ≡ (cell_at cell few).2.history))
-    for (inl few) = ((cell_at cell few).2.history, λ _. (few, refl))
+    for : (cell < rules.cells) ⊎ (rules.cells ≤ cell) → (history : List (Exchange Q P)) × (cell < rules.cells → (few : cell < rules.cells) × (history ≡ (cell_at cell few).2.is.history))
+    for (inl few) = ((cell_at cell few).2.is.history, λ _. (few, refl))
     for (inr many) = ([], λ few. absurd (omega (arith, few, many)))
 
   lines_at : (client : ℕ) → (lines : List (Line Q P)) × (client < clients → (low : client < clients) × (lines ≡ (client_at client low).2.talk.lines))
@@ -391,15 +397,24 @@ module _ {A Q P C W L : Type 0} (rules : Rules Q P C) (l : LinkWords L) (a : Act
     for (inl low) = ((client_at client low).2.talk.lines, λ _. (low, refl))
     for (inr many) = ([], λ low. absurd (omega (arith, low, many)))
 
-  pub has_served : HasServed rules l clients parts
+  desk_at : (desk : Desk W) × (slice_get parts 0 ≡ Some (part.Desk desk))
+  desk_at =
+      let c : Colour = record { 0 = 0 } in
+      let at_ = part_at c (omega arith) in
+      let is = is_desk rules l Begins c (kept.received c) (kept.sent c) at_.0 refl at_.2.is in
+      (is.0, at_.1 ∙ ap Some is.1)
+
+  pub has_served : HasServedFrom rules l Begins clients parts
   has_served = record {
     many = kept.many ∙ colours;
+    desk = desk_at.0;
+    asking = desk_at.1;
     histories = λ cell. (history_at cell).0;
     sequential = λ cell few.
         let h = (history_at cell).1 few in
         let is = cell_at cell h.0 in
         let same : cell + 1 - 1 ≡ cell = omega arith in
-        (is.0, is.1, subst (λ history. IsHistory rules cell history is.0) (sym h.1) (subst (λ n. IsHistory rules n is.2.history is.0) same is.2.is_history));
+        (is.0, is.1, subst (λ history. IsHistory rules cell (Begins cell) history is.0) (sym h.1) (subst (λ n. IsHistory rules n (Begins n) is.2.is.history is.0) same (record { first = is.2.first; begins = is.2.begins; steps = is.2.is.steps })));
     asked_by = λ cell few. let h = (history_at cell).1 few in subst (AllByRecursion (λ (one : Exchange Q P). one.peer < clients)) (sym h.1) (asked_by_all cell h.0);
     lines = λ client. (lines_at client).0;
     answered = λ client low.
@@ -412,3 +427,41 @@ module _ {A Q P C W L : Type 0} (rules : Rules Q P C) (l : LinkWords L) (a : Act
         let k = (history_at cell).1 few in
         ap (λ lines. exchanges_with cell (exchanges_in lines)) h.1 ∙ same_exchanges client h.0 cell k.0 ∙ sym (ap (exchanges_with client) k.1);
   }
+
+-- the same where cells may begin with more
+module _ {Q P C W L : Type 0} (rules : Rules Q P C) (l : LinkWords L) (Begins Others : ℕ → C → Type 0) (more : (cell : ℕ) (value : C) → Begins cell value → Others cell value) where
+  pub served_from : (clients : ℕ) (parts : List (Part C W L l)) → HasServedFrom rules l Begins clients parts → HasServedFrom rules l Others clients parts
+  served_from clients parts served = record {
+    many = served.many;
+    desk = served.desk;
+    asking = served.asking;
+    histories = served.histories;
+    sequential = λ cell few. let is = served.sequential cell few in (is.0, is.1, record { first = is.2.first; begins = more cell is.2.first is.2.begins; steps = is.2.steps });
+    asked_by = served.asked_by;
+    lines = served.lines;
+    answered = served.answered;
+    asked_of = served.asked_of;
+    same = served.same;
+  }
+
+-- what is left of a run that halted
+module _ {A Q P C W L : Type 0} (rules : Rules Q P C) (l : LinkWords L) (Begins : ℕ → C → Type 0) (a : ActorWords A (Part C W L l) (Message W L Q P)) (clients colours : ℕ) (actor : A) (parts : List (Option (Part C W L l)))
+    (many : colours ≡ rules.cells + clients + 1)
+    (keeps : (c : Colour) (received : List (Message W L Q P)) (sent : List (Colour × Message W L Q P)) (part : Part C W L l) → a.kept actor c received sent part → KeepsPart rules l Begins c received sent part) where
+  pub has_halted : AreLeft a actor colours parts → HasHalted rules l Begins clients parts
+  has_halted left = record {
+    many = elim left.many [
+      | inl none ↦ inl none
+      | inr all ↦ inr (all ∙ many)
+    ];
+    sequential = λ cell one few at.
+        let c : Colour = record { 0 = cell + 1 } in
+        let kept = left.each (cell + 1) one at in
+        let is = is_cell rules l Begins c kept.received kept.sent one (omega arith) (omega (arith, few)) (keeps c kept.received kept.sent one kept.kept).is in
+        let same : cell + 1 - 1 ≡ cell = omega arith in
+        (is.0, is.1, is.2.is.history, subst (λ n. IsHistory rules n (Begins n) is.2.is.history is.0) same (record { first = is.2.first; begins = is.2.begins; steps = is.2.is.steps }));
+  }
+
+-- nothing is left of one that didn't begin
+pub nothing_halted : {Q P C W L : Type 0} (rules : Rules Q P C) (l : LinkWords L) (Begins : ℕ → C → Type 0) (clients : ℕ) → HasHalted {W = W} rules l Begins clients []
+nothing_halted rules l Begins clients = record { many = inl refl; sequential = λ cell one few at. absurd (let never : ⊥ = cc at in never) }

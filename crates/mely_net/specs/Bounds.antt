@@ -25,7 +25,8 @@ module _ {Q P C W L : Type 0} (rules : Rules Q P C) (l : LinkWords L) (client ce
       : Type 0 where
     pub connection : IsConnection rules l (record { 0 = client + rules.cells + 1 })
         of_client.received of_client.sent value
-    pub cell_is : IsCell rules l (record { 0 = cell + 1 }) of_cell.received of_cell.sent kept
+    pub first : C
+    pub cell_is : IsCell rules l (record { 0 = cell + 1 }) of_cell.received of_cell.sent first kept
     pub replied : count_with cell (replies_in of_client.received)
         ≤ count_with (client + rules.cells + 1) (replies_sent of_cell.sent)
 

@@ -1,5 +1,5 @@
 -- Exchanges of connections with cells, and the history of a cell.
-use Rattle.std.specs.Prelude.{◌≡◌, ◌==◌, ℕ, List, [], ◌∷◌, Some, None, filter_map, if◌then◌else◌}
+use Rattle.std.specs.Prelude.{◌≡◌, ◌==◌, ℕ, List, [], ◌∷◌, Some, None, filter_map, slice_get, if◌then◌else◌}
 use Rattle.mely_net.specs.Rules.{Rules}
 
 -- a request with its reply, as one side knows it: in the list of a connection the peer is the cell
@@ -8,6 +8,10 @@ pub record Exchange (Request Reply : Type 0) : Type 0 where
   pub peer : ℕ
   pub request : Request
   pub reply : Reply
+
+-- this is the value of that number in the list
+abbrev pub IsAt : {C : Type 0} → List C → ℕ → C → Type 0
+IsAt values number value = slice_get values number ≡ Some value
 
 -- those with this peer, in order, each request with its reply
 abbrev pub exchanges_with : {Q P : Type 0} → ℕ → List (Exchange Q P) → List (Q × P)
@@ -23,9 +27,10 @@ module _ {Q P C : Type 0} (rules : Rules Q P C) (cell : ℕ) where
       (next : C) × rules.Serves cell before one.request next one.reply × Steps next exchanges after
 
   -- A sequential history of the cell, as in M. Herlihy and J. Wing, Linearizability: A Correctness
-  -- Condition for Concurrent Objects, 1990: one request after another, from what the cell begins
-  -- with to this value.
-  pub record IsHistory (exchanges : List (Exchange Q P)) (value : C) : Type 0 where
+  -- Condition for Concurrent Objects, 1990: one request after another, from such a value to this
+  -- one.
+  pub record IsHistory (Begins : C → Type 0) (exchanges : List (Exchange Q P)) (value : C)
+      : Type 0 where
     pub first : C
-    pub begins : rules.Begins cell first
+    pub begins : Begins first
     pub steps : Steps first exchanges value

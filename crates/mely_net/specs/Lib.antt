@@ -8,3 +8,4 @@ pub mod Messages
 pub mod Parts
 pub mod Served
 pub mod Bounds
+pub mod Runs

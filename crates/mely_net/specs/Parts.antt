@@ -1,5 +1,5 @@
 -- What the desk, a cell and a connection keep over the messages that they got and sent.
-use Rattle.std.specs.Prelude.{◌≡◌, ◌<◌, ◌≤◌, ◌+◌, ◌-◌, ℕ, List, [], ◌∷◌, ◌++◌, map}
+use Rattle.std.specs.Prelude.{◌≡◌, ◌<◌, ◌≤◌, ◌+◌, ◌-◌, ℕ, List, Some, [], ◌∷◌, ◌++◌, length, map, slice_get}
 use Rattle.std.specs.List.{AllByRecursion}
 use Rattle.mely_event.specs.declared.colour.Colour.{Colour}
 use Rattle.sws_link.specs.declared.Link.{Ghosts as LinkWords}
@@ -7,10 +7,10 @@ use Rattle.mely_net.specs.declared.client.Client.{Client}
 use Rattle.mely_net.specs.declared.message.Message.{Message}
 use Rattle.mely_net.specs.declared.part.Part.{Part}
 use Rattle.mely_net.specs.declared.part.Part.TheVariants as part
-use Rattle.mely_net.specs.Exchanges.{Exchange, IsHistory}
+use Rattle.mely_net.specs.Exchanges.{Exchange, Steps}
 use Rattle.mely_net.specs.Messages.{IsSigned, replies_in, replies_sent, requests_in, requests_sent}
 use Rattle.mely_net.specs.Rules.{Rules}
-use Rattle.mely_net.specs.Clients.{shown_client}
+use Rattle.mely_net.specs.Clients.{shown_client, to_come}
 use Rattle.mely_net.specs.Talks.{ClientView, IsTalk, Keeps, requests_of, replies_of}
 
 -- what a connection sends: these requests to their cells, and nothing else that asks or replies
@@ -30,15 +30,15 @@ Gets {Q} {P} rules message before after = (asks : List (ℕ × Q)) (replies : Li
 
 module _ {Q P C W L : Type 0} (rules : Rules Q P C) (l : LinkWords L) (colour : Colour)
     (received : List (Message W L Q P)) (sent : List (Colour × Message W L Q P)) where
-  -- the cell was asked and replied along a history of it
-  pub record IsCell (value : C) : Type 0 where
+  -- the cell was asked and replied along a history of it, from the first value to this one
+  pub record IsCell (first value : C) : Type 0 where
     pub behind : 0 < colour.0
     pub there : colour.0 ≤ rules.cells
     pub history : List (Exchange Q P)
     pub asked : requests_in received ≡ requests_of history
     pub replied : replies_sent sent
         ≡ map (λ reply. (reply.0 + rules.cells + 1, reply.1)) (replies_of history)
-    pub is_history : IsHistory rules (colour.0 - 1) history value
+    pub steps : Steps rules (colour.0 - 1) first history value
 
   -- the connection has asked and was replied
   pub record IsConnection (client : Client L l) : Type 0 where
@@ -48,12 +48,33 @@ module _ {Q P C W L : Type 0} (rules : Rules Q P C) (l : LinkWords L) (colour : 
     pub there : AllByRecursion (λ ask. ask.0 < rules.cells) asks
     pub talk : IsTalk rules asks (replies_in received) (shown_client client)
 
+module _ {Q P C W L : Type 0} (rules : Rules Q P C) (l : LinkWords L) (Begins : ℕ → C → Type 0)
+    (colour : Colour) (received : List (Message W L Q P))
+    (sent : List (Colour × Message W L Q P)) where
+  -- the same of a cell, from a value with which it may begin
+  pub record HasBegun (value : C) : Type 0 where
+    pub first : C
+    pub begins : Begins (colour.0 - 1) first
+    pub is : IsCell rules l colour received sent first value
+
   abbrev pub IsPart : Part C W L l → Type 0
   IsPart (part.Desk desk) = colour.0 ≡ 0
-  IsPart (part.Cell value) = IsCell value
-  IsPart (part.Client client) = IsConnection client
+  IsPart (part.Cell value) = HasBegun value
+  IsPart (part.Client client) = IsConnection rules l colour received sent client
 
   -- what it has sent is signed, and it is what its messages made of it
   pub record KeepsPart (kept : Part C W L l) : Type 0 where
     pub signed : AllByRecursion (λ send. IsSigned rules.cells colour send.1) sent
     pub is : IsPart kept
+
+-- what a run begins with: the desk, these cells, and connections that are still to come
+abbrev pub IsFresh : {C W L : Type 0} {l : LinkWords L} → List C → ℕ → Part C W L l → Type 0
+IsFresh cells number (part.Desk desk) = number ≡ 0
+IsFresh cells number (part.Cell value) =
+    (0 < number) × (slice_get cells (number - 1) ≡ Some value)
+IsFresh cells number (part.Client client) =
+    (length cells < number) × (shown_client client ≡ to_come)
+
+abbrev pub AreFresh : {C W L : Type 0} {l : LinkWords L} → List C → List (Part C W L l) → Type 0
+AreFresh {C} {W} {L} {l} cells parts = (number : ℕ) (one : Part C W L l)
+    → slice_get parts number ≡ Some one → IsFresh cells number one

@@ -1,9 +1,10 @@
 -- What a run of a service has come to.
-use Rattle.std.specs.Prelude.{◌≡◌, ◌≢◌, ◌<◌, ◌+◌, ℕ, List, Some, length, slice_get}
+use Rattle.std.specs.Prelude.{◌≡◌, ◌≢◌, ◌<◌, ◌+◌, ◌⊎◌, ℕ, List, [], Option, Some, length, slice_get}
 use Rattle.std.specs.List.{AllByRecursion}
 use Rattle.sws_link.specs.Links.{LinkContents}
 use Rattle.sws_link.specs.declared.Link.{Ghosts as LinkWords}
 use Rattle.mely_net.specs.declared.client.Client.{Client}
+use Rattle.mely_net.specs.declared.desk.Desk.{Desk}
 use Rattle.mely_net.specs.declared.end.End.TheVariants as ends
 use Rattle.mely_net.specs.declared.part.Part.{Part}
 use Rattle.mely_net.specs.declared.part.Part.TheVariants as part
@@ -24,18 +25,20 @@ pub record IsAnswered {Q P C L : Type 0} (rules : Rules Q P C) (l : LinkWords L)
       → IsFramed rules told lines client.outbox client.end
 
 -- There is a value for the desk, each cell and each connection. Each cell has one sequential
--- history of exchanges, from what it began with to its value. Each connection has answered lines,
+-- history of exchanges, from a value with which it may begin to the one that is there. Each connection has answered lines,
 -- some of them by exchanges with cells. And both sides know the same exchanges: those of a
 -- connection with a cell are, in order, those of the cell with the connection. So each request of a
 -- connection has one place in the history of the cell that was asked, behind those that the
 -- connection had asked of it before, and what the connection showed is the reply of that place.
-pub record HasServed {Q P C W L : Type 0} (rules : Rules Q P C) (l : LinkWords L) (clients : ℕ)
-    (parts : List (Part C W L l)) : Type 0 where
+pub record HasServedFrom {Q P C W L : Type 0} (rules : Rules Q P C) (l : LinkWords L)
+    (Begins : ℕ → C → Type 0) (clients : ℕ) (parts : List (Part C W L l)) : Type 0 where
   pub many : length parts ≡ rules.cells + clients + 1
+  pub desk : Desk W
+  pub asking : slice_get parts 0 ≡ Some (part.Desk desk)
   pub histories : ℕ → List (Exchange Q P)
   pub sequential : (cell : ℕ) → cell < rules.cells → (value : C)
       × (slice_get parts (cell + 1) ≡ Some (part.Cell value))
-      × IsHistory rules cell (histories cell) value
+      × IsHistory rules cell (Begins cell) (histories cell) value
   pub asked_by : (cell : ℕ) → cell < rules.cells
       → AllByRecursion (λ one. one.peer < clients) (histories cell)
   pub lines : ℕ → List (Line Q P)
@@ -47,3 +50,19 @@ pub record HasServed {Q P C W L : Type 0} (rules : Rules Q P C) (l : LinkWords L
   pub same : (client cell : ℕ) → client < clients → cell < rules.cells
       → exchanges_with cell (exchanges_in (lines client))
       ≡ exchanges_with client (histories cell)
+
+-- the same of a run whose cells begin as the service says
+abbrev pub HasServed : {Q P C W L : Type 0} → Rules Q P C → (l : LinkWords L) → ℕ
+    → List (Part C W L l) → Type 0
+HasServed rules l clients parts = HasServedFrom rules l rules.Begins clients parts
+
+-- What is left of a run for which there was no memory: nothing, or for each colour what it has, but
+-- for those on which memory was wanted. A cell that is there went step by step along a sequential
+-- history, from a value with which it may begin to the one that it has.
+pub record HasHalted {Q P C W L : Type 0} (rules : Rules Q P C) (l : LinkWords L)
+    (Begins : ℕ → C → Type 0) (clients : ℕ) (parts : List (Option (Part C W L l)))
+    : Type 0 where
+  pub many : (parts ≡ []) ⊎ (length parts ≡ rules.cells + clients + 1)
+  pub sequential : (cell : ℕ) (one : Part C W L l) → cell < rules.cells
+      → slice_get parts (cell + 1) ≡ Some (Some one) → (value : C) × (one ≡ part.Cell value)
+      × (history : List (Exchange Q P)) × IsHistory rules cell (Begins cell) history value

@@ -1,8 +1,6 @@
 //! A service over a world, as actors.
 ghost use Rattle.std.specs.Prelude.{◌≡◌, ◌+◌};
 
-use crate::client::Client;
-use crate::desk::Desk;
 use crate::layout::Layout;
 use crate::message::Message;
 use crate::part::Part;
@@ -12,6 +10,7 @@ use mely_actor::{Actor, Place, Sends};
 use mely_event::{Colour, Event, Memory};
 use std::alloc::Global;
 use std::marker::PhantomData;
+use std::snapshot::Snapshot;
 use std::sync::Mutex;
 use sws_link::{Link, World};
 
@@ -21,12 +20,16 @@ pub(crate) struct Serving<S: Service, W> {
     pub(crate) alloc: Global,
     pub(crate) service: S,
     pub(crate) layout: Layout,
+
+    /// What the cells begin with.
+    pub(crate) firsts: Snapshot<Vec<S::Cell>>,
     pub(crate) of: PhantomData<Mutex<W>>,
     ghost cells: { layout.cells ≡ (S.rules_of service).cells },
 }
 
 impl<S: Service + Drop, W: World + Drop> Actor for Serving<S, W> {
     ghost use Rattle.mely_net.specs.Messages.{MayGet, event_of};
+    ghost use Rattle.mely_net.specs.Exchanges.{IsAt};
     ghost use Rattle.mely_net.specs.Parts.{KeepsPart};
 
     type Value = Part<S::Cell, W, W::Link>;
@@ -43,7 +46,7 @@ impl<S: Service + Drop, W: World + Drop> Actor for Serving<S, W> {
         serving.layout.cells serving.layout.clients colour message };
 
     ghost kept = { λ serving colour received sent part. KeepsPart (S.rules_of serving.service)
-        W.Link.Link colour received sent part };
+        W.Link.Link (IsAt serving.firsts.value.items) colour received sent part };
 
     fn event(message: &Message<W, W::Link, S::Request, S::Reply>) -> Event {
         let handler = match message {
@@ -57,16 +60,6 @@ impl<S: Service + Drop, W: World + Drop> Actor for Serving<S, W> {
             Message::Reply(_, _) => 8,
         };
         Event { handler, arg: 0 }
-    }
-
-    fn begin(&self, alloc: Global, colour: Colour) -> Result<Part<S::Cell, W, W::Link>, Memory> {
-        if colour.0 == 0 {
-            return Ok(Part::Desk(Desk::new(alloc, self.layout.clients)?));
-        }
-        if colour.0 <= self.layout.cells {
-            return Ok(Part::Cell(self.service.begin(alloc, colour.0 - 1)?));
-        }
-        Ok(Part::Client(Client::new(alloc)))
     }
 
     fn on(

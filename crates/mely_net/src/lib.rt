@@ -27,6 +27,10 @@
 //! | `1 + c` | the value of cell `c` |
 //! | `1 + cells + k` | connection `k`, a [`Client`]: its link, and how it has ended ([`End`]) |
 //!
+//! [`serve_on`] serves on cells that have given values, and [`take_cells`] takes the cells out of
+//! what a run left. So one run may follow another: between them the cells are at hand, to be
+//! written to a file, or for a service that has changed.
+//!
 //! A connection has one request under way at most. It isn't read while a request is under way or an
 //! answer isn't written, so who doesn't take answers isn't heard either. Frames that came together
 //! are answered together. A frame of more than [`Service::longest`] bytes is a fault, as is what
@@ -34,7 +38,8 @@
 //!
 //! # What is promised
 //!
-//! [`HasServed`](../specs/Served.antt), of every run that ends with Ok:
+//! [`HasServed`](../specs/Served.antt), of every run that ends with Ok; of a run on given cells
+//! `HasServedFrom`, which says the same with these values as those that the cells begin with:
 //!
 //! - *Framed.* Over a link that tells what was taken and written, what was taken of a connection
 //!   begins with the frames of its lines, as the service cuts them; each line has what its frame
@@ -52,6 +57,15 @@
 //!   the order in which they were sent, and what a connection is told is the reply of that place.
 //!   No request is left under way, and no reply goes astray.
 //!
+//! Over runs that follow one another, each on the cells that the one before it left, a cell has one
+//! history too: its exchanges run after run are steps of the service, from the value with which the
+//! first run began to the one that the last left. This is the law
+//! [`a_cell_has_one_history_along_all_runs`].
+//!
+//! Where memory was wanted, [`serve_on`] hands back what each colour has, but for those on which it
+//! was wanted ([`Halted`](mely_actor::Halted)): each cell that is there went along a sequential
+//! history ([`HasHalted`](../specs/Served.antt)), so its value is one that requests led to.
+//!
 //! So a cell's queue is bounded by the connections: of each, one request at most waits for the cell
 //! at any moment at which both are as their handlers leave them, and the connection was replied no
 //! more than the cell has sent. This is the law [`one_request_of_a_connection_waits`]; `serve` itself
@@ -60,16 +74,21 @@
 //! **Not promised**, since nothing tells it: what a socket brings or carries away; in which order
 //! the requests of different connections come to a cell; anything of the order of exchanges with
 //! different cells, so that a request which concerns several keys is no single step; that a run
-//! ends, or how long an answer takes; and anything of a run that wants memory, which is dropped.
+//! ends, or how long an answer takes. Of a run that wants memory nothing is promised but the
+//! history of each cell that is handed back: requests that were under way are dropped, and a cell
+//! may have served one whose client wasn't told. Where there was no memory to begin, nothing is
+//! handed back.
 #![tactic(auto)]
 
 mod acting;
 mod asked;
 mod asking;
 mod client;
+mod closing;
 mod cut;
 mod desk;
 mod end;
+mod fresh;
 mod laws;
 mod layout;
 mod message;
@@ -81,10 +100,11 @@ mod window;
 
 pub use asked::Asked;
 pub use client::Client;
+pub use closing::take_cells;
 pub use cut::Cut;
 pub use desk::Desk;
 pub use end::End;
-pub use laws::one_request_of_a_connection_waits;
+pub use laws::{a_cell_has_one_history_along_all_runs, one_request_of_a_connection_waits};
 pub use part::Part;
-pub use running::{MOST_WORKERS, serve};
+pub use running::{MOST_WORKERS, serve, serve_on};
 pub use service::Service;

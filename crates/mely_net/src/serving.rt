@@ -68,11 +68,12 @@ pub(crate) fn at_cell<S: Service, W: World + Drop>(
         sends.new) }
     ensures signed { OnOk result (AllByRecursion
         (λ send. IsSigned layout.now.cells colour send.1) sends.new) }
-    ensures kept { OnOk result ((received : List (Message W W.Link S.Request S.Reply))
+    ensures kept { OnOk result ((first : S.Cell)
+        (received : List (Message W W.Link S.Request S.Reply))
         (sent : List (Colour × Message W W.Link S.Request S.Reply))
-        → IsCell (S.rules_of service.now) W.Link.Link colour received sent value.old
+        → IsCell (S.rules_of service.now) W.Link.Link colour received sent first value.old
         → IsCell (S.rules_of service.now) W.Link.Link colour (received ++ message ∷ [])
-        (sent ++ sends.new) value.new) }
+        (sent ++ sends.new) first value.new) }
 {
     let Message::Ask(from, request) = message else {
         return Ok(());

@@ -110,10 +110,10 @@ fn talked(
         panic!(rt; "no memory");
     };
     let (mut lines, mut came) = (0, Vec::new(rt.alloc()));
-    for seat in &ended.states {
-        match seat.part() {
+    for part in &ended.values {
+        match part {
             Part::Desk(_) => {}
-            Part::Room => lines = seat.events(),
+            Part::Room(room) => lines = room.lines(),
             Part::Client(client) => {
                 let shown = client.gone().map_or(b"".as_slice(), |link| link.written());
                 came.push((client.end(), owned(rt, shown)))

@@ -1,40 +1,24 @@
-use Rattle.std.proofs.Common.{◌≡◌, ◌≤◌, ◌+◌, ◌∙◌, length, map, refl, ap, sym, subst, arith, rules}
-use Rattle.mely_event.specs.HandlerTable.{rows_of}
-use Rattle.mely_history.specs.Setup.{handlers_of}
-use Rattle.mely_weave.proofs.Wholes.GatherLemmas.{get_there}
-use Rattle.example_chat_room.specs.Talked.{IsChat}
-use Rattle.example_chat_room.proofs.RunLemmas.{if_both, is_chat}
-use Rattle.example_chat_room.proofs.SeatsLemmas.{are_initial}
+use Rattle.std.proofs.Common.{◌≡◌, ◌+◌, ap, refl, subst, arith}
+use Rattle.std.proofs.lemmas.Result.{IfOk-weaker}
+use Rattle.mely_history.specs.Setup.{colours_of}
+use Rattle.mely_actor.proofs.ListLemmas.{one_sent}
+use Rattle.example_chat_room.specs.Messages.{MayGet}
+use Rattle.example_chat_room.specs.Parts.{KeepsPart}
+use Rattle.example_chat_room.proofs.ChatLemmas.{is_chat}
 use Rattle.example_chat_room.proofs.running.run_chat.Goals as goal
-
-pub run_states-requires-clause-first : goal.run_states-requires-clause-first
-run_states-requires-clause-first g c = λ lifetimes outlives. are_initial _ _ (λ s. refl) (λ s. refl) (λ s. refl) c.in-Ok-new.setup c.in-Ok-make_seats.seats.items c.in-Ok-new.ensures.colours c.in-Ok-make_seats.ensures
-
-pub run_states-requires-clause-served : goal.run_states-requires-clause-served
-run_states-requires-clause-served g c =
-    let colours = c.in-Ok-new.ensures.colours in
-    let rows : 8 ≤ length (rows_of (handlers_of c.in-Ok-new.setup)) = search rules in
-    let total = c.total-clients.ensures in
-    let few = c.requires.clients in
-    λ lifetimes outlives state at. record {
-      colours = omega (arith, colours);
-      handlers = rows;
-      serves = (c.in-Ok-make_seats.ensures.clients_are 0 state at, omega (arith, total, few));
-    }
-
-pub run_states-requires-clause-fits : goal.run_states-requires-clause-fits
-run_states-requires-clause-fits g c =
-    let colours = c.in-Ok-new.ensures.colours in
-    let rows : 8 ≤ length (rows_of (handlers_of c.in-Ok-new.setup)) = search rules in
-    λ lifetimes outlives state at. record {
-      colour = omega (arith, colours);
-      handler = omega (arith, rows);
-      load = ((refl, refl), λ low. (c.requires.open, sym c.total-clients.ensures ∙ sym (c.in-Ok-make_seats.ensures.clients_are 0 state at)));
-    }
 
 pub returns : goal.returns
 returns g c =
-    let many = c.in-Ok-make_seats.ensures.many in
-    let first = get_there c.in-Ok-make_seats.seats.items 0 (omega (arith, many)) in
-    if_both _ _ _ c.run_states.result c.run_states.ensures.ran c.run_states.ensures.puts
-    (λ ended ran puts. subst (λ n. IsChat n c.args.workers (map (λ history. history.items) ended.histories.items) ended.states.items) c.total-clients.ensures (is_chat _ (λ s. refl) (λ s. refl) _ _ _ c.in-Ok-new.setup _ _ c.args.workers c.in-Ok-new.ensures.colours (ap (λ shape. shape.shards) c.in-Ok-new.ensures.shape) (λ before event load after puts told. told) _ _ (map (λ history. history.items) ended.histories.items) ended.states.items ran (puts first.0 first.1)))
+    let l = g.W.Link.Link in
+    let tells = g.W.World.tells in
+    let coming = (tells c.args.world).coming in
+    let clients = (tells c.args.world).total in
+    let many = c.total-clients.result in
+    let total = c.total-clients.ensures in
+    let begins = ap (λ world. (tells world).coming) c.of.ensures in
+    let made = c.in-Ok-new.ensures.colours in
+    let colours : colours_of c.in-Ok-new.setup ≡ clients + 2 = omega (arith, made, total) in
+    let posted = one_sent _ _ _ c.new-posts.ensures.items c.in_ok-push.ensures.items in
+    IfOk-weaker c.run_actors.result _ _ (λ ended kept. is_chat l _ tells coming clients _ c.in-Ok-new.setup c.push.new.self.items (record { world = c.args.world; accepted = 0 }) posted refl _ ended.values.items kept colours
+    (λ colour received sent one keeps. subst (λ n. KeepsPart l coming n colour received sent one) total (subst (λ k. KeepsPart l k many colour received sent one) begins keeps))
+    (λ colour message so. subst (λ n. MayGet l tells coming n colour message) total (subst (λ k. MayGet l tells k many colour message) begins so)) c.args.workers (ap (λ shape. shape.cores) c.in-Ok-new.ensures.shape) (ap (λ shape. shape.shards) c.in-Ok-new.ensures.shape) refl) c.run_actors.ensures.kept

@@ -1,7 +1,8 @@
-use Rattle.std.proofs.Common.{◌<◌, ◌++◌, Some, false, refl, sym, subst}
+use Rattle.std.proofs.Common.{◌<◌, ◌++◌, Some, false, refl, ap, sym, subst}
 use Rattle.std.specs.List.{AllByRecursion}
 use Rattle.mely_actor.specs.declared.load.Load.TheVariants.{Posts}
 use Rattle.mely_actor.specs.Loads.{ArePutsFit, IsPut}
+use Rattle.mely_actor.specs.Running.{HasKept}
 use Rattle.mely_actor.specs.Sending.{MaySend}
 use Rattle.mely_actor.specs.Waiting.{turn_is_put, turning}
 use Rattle.mely_actor.proofs.AnswerLemmas.{of_ok}
@@ -31,7 +32,7 @@ library : (g : _) (c : goal.Then-is_ok g) → 0 < g.A.Actor.rows_of c.self.insid
 library g c = subst (λ state. 0 < g.A.Actor.rows_of state.plan.actor) (sym c.self.view_is) c.requires.serves.library
 
 pub invariant_of-self : goal.invariant_of-self
-invariant_of-self g c = λ well. step_may g.A.Actor c.self.inside.plan.value c.self.inside.log.colour (there g c) (library g c) _ _ c.self.inside.waiting.items c.args.posts.items _ _ (c.self.invariant well) (allowed g c) (put g c)
+invariant_of-self g c = (λ well. step_may g.A.Actor c.self.inside.plan.value c.self.inside.log.colour (there g c) (library g c) _ _ c.self.inside.waiting.items c.args.posts.items _ _ (c.self.invariant.0 well) (allowed g c) (put g c), subst (λ d. HasKept g.A.Actor c.self.inside.plan.value.actor d c.self.inside.count c.self.inside.failed c.self.inside.value) (sym (ap (λ log. log.colour) c.push.ensures)) c.self.invariant.1)
 
 pub returns-then-is_ok-clause-ran : goal.returns-then-is_ok-clause-ran
 returns-then-is_ok-clause-ran g c = λ well. stepped g.A.Actor _ _ _ (Some (Posts c.args.posts)) c.send_all.new.outs c.self.view_is well c.args.posts.items (record { sends_are = refl; counts = refl; keeps = refl }) (put g c)
@@ -39,4 +40,4 @@ returns-then-is_ok-clause-ran g c = λ well. stepped g.A.Actor _ _ _ (Some (Post
 pub returns-then-is_ok-clause-puts : goal.returns-then-is_ok-clause-puts
 returns-then-is_ok-clause-puts g c =
     subst (λ state. ArePutsFit g.A.Actor state.plan.actor state.plan.posts.items c.send_all.new.outs) c.self.view_is
-    (step_fits g.A.Actor c.self.inside.plan.value c.self.inside.log.colour (there g c) (library g c) _ _ c.self.inside.waiting.items c.args.posts.items _ _ (c.self.invariant (let not = c.if-not-self.true in cc)) (allowed g c) (put g c))
+    (step_fits g.A.Actor c.self.inside.plan.value c.self.inside.log.colour (there g c) (library g c) _ _ c.self.inside.waiting.items c.args.posts.items _ _ (c.self.invariant.0 (let not = c.if-not-self.true in cc)) (allowed g c) (put g c))

@@ -1,7 +1,8 @@
-use Rattle.std.proofs.Common.{◌≡◌, ◌<◌, ◌++◌, ◌∷◌, [], Some, false, ap, sym, subst, ◌∙◌, arith}
+use Rattle.std.proofs.Common.{◌≡◌, ◌<◌, ◌++◌, ◌∷◌, [], Some, false, ap, sym, subst, ◌∙◌, arith, length-append}
 use Rattle.std.specs.List.{AllByRecursion}
 use Rattle.mely_actor.specs.declared.load.Load.TheVariants.{Message}
 use Rattle.mely_actor.specs.Loads.{ArePutsFit, IsPut}
+use Rattle.mely_actor.specs.Running.{HasKept}
 use Rattle.mely_actor.specs.Sending.{MaySend}
 use Rattle.mely_actor.specs.Waiting.{turn_is_put, turning}
 use Rattle.mely_actor.proofs.AnswerLemmas.{of_ok}
@@ -26,8 +27,33 @@ there g c = subst (λ state. state.log.colour.0 < g.A.Actor.colours_of state.pla
 library : (g : _) (c : goal.Then-is_ok-2 g) → 0 < g.A.Actor.rows_of c.self.inside.plan.value.actor
 library g c = subst (λ state. 0 < g.A.Actor.rows_of state.plan.actor) (sym c.self.view_is) c.requires.serves.library
 
+-- the value keeps the author's fact over this message too
+has_kept : (g : _) (c : goal.Then-is_ok-2 g) → HasKept g.A.Actor c.self.inside.plan.value.actor c.self.inside.log.colour c.saturating_add-self-inside.result c.self.inside.failed c.on.new.value
+has_kept g c = λ well.
+    let a = g.A.Actor in
+    let message = c.args.message in
+    let colour = c.self.inside.log.colour in
+    let new = c.on.new.sends in
+    let old = c.self.invariant.1 well in
+    let received = old.0.received in
+    let sent = old.0.sent in
+    let many = old.1 in
+    let longer = length-append received (message ∷ []) in
+    let below = c.if-self-lt18446744073709551615.true in
+    let more = c.saturating_add-self-inside.ensures in
+    let kept = of_ok _ c.on.result c.if-is_ok.ensures.value c.on.ensures.kept in (
+      record {
+        received = received ++ message ∷ [];
+        sent = sent ++ new;
+        kept = subst (λ x. a.kept x colour (received ++ message ∷ []) (sent ++ new) c.on.new.value) (sym (same g c))
+            (subst (λ d. a.kept c.args.actor.now d (received ++ message ∷ []) (sent ++ new) c.on.new.value) c.colour.ensures
+            (kept received sent many (subst (λ d. a.kept c.args.actor.now d received sent c.self.inside.value) (sym c.colour.ensures) (subst (λ x. a.kept x colour received sent c.self.inside.value) (same g c) old.0.kept))));
+      },
+      omega (arith, many, longer, below, more),
+    )
+
 pub invariant_of-self : goal.invariant_of-self
-invariant_of-self g c = λ well. step_may g.A.Actor c.self.inside.plan.value c.self.inside.log.colour (there g c) (library g c) _ _ c.self.inside.waiting.items c.on.new.sends _ _ (c.self.invariant well) (allowed g c) (put g c)
+invariant_of-self g c = (λ well. step_may g.A.Actor c.self.inside.plan.value c.self.inside.log.colour (there g c) (library g c) _ _ c.self.inside.waiting.items c.on.new.sends _ _ (c.self.invariant.0 well) (allowed g c) (put g c), subst (λ d. HasKept g.A.Actor c.self.inside.plan.value.actor d c.saturating_add-self-inside.result c.self.inside.failed c.on.new.value) (sym (ap (λ log. log.colour) c.push.ensures)) (has_kept g c))
 
 pub returns-then-is_ok-2-clause-ran : goal.returns-then-is_ok-2-clause-ran
 returns-then-is_ok-2-clause-ran g c = λ well.
@@ -48,4 +74,4 @@ returns-then-is_ok-2-clause-ran g c = λ well.
 pub returns-then-is_ok-2-clause-puts : goal.returns-then-is_ok-2-clause-puts
 returns-then-is_ok-2-clause-puts g c =
     subst (λ state. ArePutsFit g.A.Actor state.plan.actor state.plan.posts.items c.send_all.new.outs) c.self.view_is
-    (step_fits g.A.Actor c.self.inside.plan.value c.self.inside.log.colour (there g c) (library g c) _ _ c.self.inside.waiting.items c.on.new.sends _ _ (c.self.invariant (let not = c.if-not-self.true in cc)) (allowed g c) (put g c))
+    (step_fits g.A.Actor c.self.inside.plan.value c.self.inside.log.colour (there g c) (library g c) _ _ c.self.inside.waiting.items c.on.new.sends _ _ (c.self.invariant.0 (let not = c.if-not-self.true in cc)) (allowed g c) (put g c))
