@@ -28,7 +28,7 @@ silence = record {
   answers = λ left hall bytes. one_answer left bytes;
   answers_to = λ hall bytes. one_answer 1 (take 16 bytes);
   responses_of = λ hall bytes. [];
-  input_limit = 16;
-  answer_limit = 1;
+  input_limit = λ hall. 16;
+  answer_limit = λ hall. 1;
   text_limit = 0;
 }

@@ -43,8 +43,8 @@ silence-orderly = record {
   all = λ hall bytes. refl;
   texts = λ hall bytes. no_texts (one_answer 1 (take 16 bytes));
   nothing = refl;
-  some_input = lit< tt;
-  some_answers = lit< tt;
-  few_input = lit< tt;
-  few_written = lit< tt;
+  some_input = λ hall. lit< tt;
+  some_answers = λ hall. lit< tt;
+  few_input = λ hall. lit< tt;
+  few_written = λ hall. lit< tt;
 }

@@ -51,7 +51,7 @@ impl Speech for Silence {
         MAX_INPUT
     }
 
-    fn answer_limit(&self) -> u8 {
+    fn answer_limit(&self) -> u16 {
         1
     }
 

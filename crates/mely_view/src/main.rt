@@ -13,7 +13,7 @@ use std::io::ErrorKind;
 use std::process::ExitCode;
 use std::{env, io};
 use sws_engine::handler_table;
-use sws_net::{Output, StdSink, StdSource};
+use sws_files::{Output, StdSink, StdSource};
 use sws_words::{Order, WordFault, read_words};
 
 const USAGE: u8 = 2;

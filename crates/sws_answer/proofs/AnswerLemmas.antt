@@ -18,7 +18,7 @@ use Rattle.sws_site.specs.ResponseHeads.{head_text}
 use Rattle.sws_site.specs.Fixed.{refusal_head, refusal_body, is_fixed}
 use Rattle.sws_site.specs.Folders.{folder_index}
 use Rattle.sws_answer.specs.Asked.{request, not_request, asked_in, asked_by}
-use Rattle.sws_answer.specs.Cases.{lacks_host, is_one_of, other_methods, file_methods, file_for, folder_for, subject_for, first_case, request_status}
+use Rattle.sws_answer.specs.Cases.{is_malformed, is_one_of, other_methods, file_methods, file_for, folder_for, subject_for, first_case, request_status}
 use Rattle.sws_answer.specs.Answers.{Answer, response, request_answer, is_head_request}
 use Rattle.sws_answer.specs.FileAnswers.{name_answer, file_answer, status_by}
 use Rattle.sws_answer.specs.declared.ranges.Selection.{Selection}
@@ -99,7 +99,7 @@ unnamed site HeaderFieldsTooLarge file selection closes is_head refuses = refl
 unnamed site NotImplemented file selection closes is_head refuses = refl
 
 -- without the one field Host
-pub answer-no_host : (site : SiteState) (asked : Request) (last : Bool) → lacks_host asked ≡ true
+pub answer-no_host : (site : SiteState) (asked : Request) (last : Bool) → is_malformed site asked ≡ true
     → response site BadRequest None Whole true (is_head_request asked) ≡ request_answer site asked last
 unfolding request_status
 answer-no_host site asked last host = sym (
@@ -107,7 +107,7 @@ answer-no_host site asked last host = sym (
     ∙ unnamed site BadRequest (subject_for site asked) (chosen site asked) true (is_head_request asked) refl)
 
 -- with a known method that a file has not
-pub answer-other_method : (site : SiteState) (asked : Request) (last : Bool) → lacks_host asked ≡ false → is_one_of other_methods asked.method ≡ true
+pub answer-other_method : (site : SiteState) (asked : Request) (last : Bool) → is_malformed site asked ≡ false → is_one_of other_methods asked.method ≡ true
     → response site MethodNotAllowed None Whole (is_closing asked || last) (is_head_request asked) ≡ request_answer site asked last
 unfolding request_status
 answer-other_method site asked last host other = sym (
@@ -117,7 +117,7 @@ answer-other_method site asked last host other = sym (
     ∙ unnamed site MethodNotAllowed (subject_for site asked) (chosen site asked) (is_closing asked || last) (is_head_request asked) refl)
 
 -- the tests of the methods are passed
-status_from_file : (site : SiteState) (asked : Request) → lacks_host asked ≡ false → is_one_of other_methods asked.method ≡ false
+status_from_file : (site : SiteState) (asked : Request) → is_malformed site asked ≡ false → is_one_of other_methods asked.method ≡ false
     → request_status site asked
     ≡ table false false (not (is_one_of file_methods asked.method)) (is_none (path_and_query asked.target)) (is_none (subject_for site asked)) (is_none (file_for site asked)) (is_unmodified site.date asked.fields) (is_unsatisfied (selected site asked)) (is_part (selected site asked))
 unfolding request_status
@@ -126,7 +126,7 @@ status_from_file site asked host other =
     ∙ ap (λ t. table false t (not (is_one_of file_methods asked.method)) (is_none (path_and_query asked.target)) (is_none (subject_for site asked)) (is_none (file_for site asked)) (is_unmodified site.date asked.fields) (is_unsatisfied (selected site asked)) (is_part (selected site asked))) other
 
 -- with an unknown method
-pub answer-unknown_method : (site : SiteState) (asked : Request) (last : Bool) → lacks_host asked ≡ false → is_one_of other_methods asked.method ≡ false → is_one_of file_methods asked.method ≡ false
+pub answer-unknown_method : (site : SiteState) (asked : Request) (last : Bool) → is_malformed site asked ≡ false → is_one_of other_methods asked.method ≡ false → is_one_of file_methods asked.method ≡ false
     → response site NotImplemented None Whole (is_closing asked || last) (is_head_request asked) ≡ request_answer site asked last
 answer-unknown_method site asked last host other file = sym (
     answer_at site asked last NotImplemented (
@@ -135,14 +135,14 @@ answer-unknown_method site asked last host other file = sym (
     ∙ unnamed site NotImplemented (subject_for site asked) (chosen site asked) (is_closing asked || last) (is_head_request asked) refl)
 
 -- the tests of the target are left
-status_from_target : (site : SiteState) (asked : Request) → lacks_host asked ≡ false → is_one_of other_methods asked.method ≡ false → is_one_of file_methods asked.method ≡ true
+status_from_target : (site : SiteState) (asked : Request) → is_malformed site asked ≡ false → is_one_of other_methods asked.method ≡ false → is_one_of file_methods asked.method ≡ true
     → request_status site asked ≡ by_target site asked (is_none (path_and_query asked.target))
 status_from_target site asked host other file =
     status_from_file site asked host other
     ∙ ap (λ t. table false false (not t) (is_none (path_and_query asked.target)) (is_none (subject_for site asked)) (is_none (file_for site asked)) (is_unmodified site.date asked.fields) (is_unsatisfied (selected site asked)) (is_part (selected site asked))) file
 
 -- with a target of another form
-pub answer-other_form : (site : SiteState) (asked : Request) (last : Bool) → lacks_host asked ≡ false → is_one_of other_methods asked.method ≡ false → is_one_of file_methods asked.method ≡ true
+pub answer-other_form : (site : SiteState) (asked : Request) (last : Bool) → is_malformed site asked ≡ false → is_one_of other_methods asked.method ≡ false → is_one_of file_methods asked.method ≡ true
     → path_and_query asked.target ≡ None
     → response site BadRequest None Whole true (is_head_request asked) ≡ request_answer site asked last
 answer-other_form site asked last host other file form = sym (
@@ -176,7 +176,7 @@ unfolding response head_text
 moved site index selection closes is_head = refl
 
 -- with a target that names a file
-answer-named : (site : SiteState) (asked : Request) (last : Bool) (path name : List ℕ) → lacks_host asked ≡ false → is_one_of other_methods asked.method ≡ false → is_one_of file_methods asked.method ≡ true
+answer-named : (site : SiteState) (asked : Request) (last : Bool) (path name : List ℕ) → is_malformed site asked ≡ false → is_one_of other_methods asked.method ≡ false → is_one_of file_methods asked.method ≡ true
     → path_and_query asked.target ≡ Some path → name_of site.options asked.target ≡ Some name
     → name_answer site asked name (is_closing asked || last) (is_head_request asked) ≡ request_answer site asked last
 answer-named site asked last path name host other file form named =
@@ -228,7 +228,7 @@ mapped_none (Some path) e = absurd (cc)
 
 -- the target says the path that was answered
 pub Sends-named : (sent : Sent) (site : SiteState) (asked : Request) (last closes is_head : Bool) (target rest path : List ℕ)
-    → lacks_host asked ≡ false → is_one_of other_methods asked.method ≡ false → is_one_of file_methods asked.method ≡ true
+    → is_malformed site asked ≡ false → is_one_of other_methods asked.method ≡ false → is_one_of file_methods asked.method ≡ true
     → closes ≡ (is_closing asked || last) → is_head ≡ is_head_request asked
     → target ≡ asked.target → Some rest ≡ option_map (drop 1) (path_and_query target) → path ≡ path_of rest
     → Sends sent (name_answer site asked (name_said_by site.options (47 ∷ path)) closes is_head)

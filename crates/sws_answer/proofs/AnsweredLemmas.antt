@@ -1,6 +1,6 @@
 -- Laws of answers, whatever was asked: which close, that a head is sent, and
 -- how long head and body are.
-use Rattle.std.specs.Prelude.{◌≡◌, ◌<◌, Bool, true, false, ◌||◌, length}
+use Rattle.std.specs.Prelude.{◌≡◌, ◌<◌, ◌++◌, Bool, true, false, ◌||◌, length}
 use Rattle.std.proofs.Common.{refl, arith, length-append}
 use Rattle.sws_site.specs.ResponseHeads.{ResponseHead, head_text, head_lines, lines_text, line_end}
 use Rattle.sws_site.specs.Site.{SiteState}
@@ -33,7 +33,7 @@ closes-too_long site last = refl
 -- it is never empty
 head_text-some : (head : ResponseHead) → 0 < length (head_text head)
 unfolding head_text
-head_text-some head = omega (arith, length-append (lines_text (head_lines head)) line_end)
+head_text-some head = omega (arith, length-append (lines_text (head_lines head) ++ head.headers) line_end)
 
 pub head-some : (site : SiteState) (asked : Asked) (last : Bool) → 0 < length (answer_of site asked last).head
 unfolding request_answer response

@@ -1,7 +1,6 @@
 -- The index of a folder that a path names.
-use Rattle.std.proofs.Common.{◌≡◌, ◌<◌, ◌≤◌, ◌+◌, ℕ, Bool, true, false, List, [], ◌++◌, length, length-append, Option, Some, None, option_map, refl, sym, ap, subst, ◌∙◌, arith}
+use Rattle.std.proofs.Common.{◌≡◌, ◌<◌, ◌+◌, ℕ, Bool, true, false, List, [], ◌++◌, length, length-append, Option, Some, None, option_map, refl, sym, ap, subst, ◌∙◌, arith}
 use Rattle.std.specs.Prelude.{if◌then◌else◌}
-use Rattle.httpdate.specs.declared.date.HttpDate.{HttpDate}
 use Rattle.sws_site.specs.declared.options.SiteOptions.{SiteOptions}
 use Rattle.sws_site.specs.ResponseHeads.{head_text}
 use Rattle.sws_site.specs.Files.{File, file_named}
@@ -49,22 +48,22 @@ folder_index-off site options name is off = ap (λ t. if t then file_named (name
 
 -- the redirect of the file that is found is that to the folder
 pub redirect_of-found : (site : SiteState) (name index : List ℕ) (page : PageState) (closes : Bool) → index ≡ name ++ index_tail → Some page ≡ found_in site index
-    → redirect_of page closes ≡ option_map (redirect_parts closes) (folder_index site name)
+    → redirect_of page closes ≡ option_map (redirect_parts site.options closes) (folder_index site name)
 redirect_of-found site name index page closes is e = by_file (file_named (name ++ index_tail) site.files) refl (e ∙ ap (found_in site) is)
   where
-    by_test : (t : Bool) (file : File) → (if t then Some (redirect_parts closes file) else None) ≡ option_map (redirect_parts closes) (if t then Some file else None)
+    by_test : (t : Bool) (file : File) → (if t then Some (redirect_parts site.options closes file) else None) ≡ option_map (redirect_parts site.options closes) (if t then Some file else None)
     by_test true file = refl
     by_test false file = refl
 
     by_file : (found : Option File) → file_named (name ++ index_tail) site.files ≡ found → Some page ≡ option_map (page_of site) found
-        → redirect_of page closes ≡ option_map (redirect_parts closes) (if redirects_to site.options (name ++ index_tail) then file_named (name ++ index_tail) site.files else None)
+        → redirect_of page closes ≡ option_map (redirect_parts site.options closes) (if redirects_to site.options (name ++ index_tail) then file_named (name ++ index_tail) site.files else None)
     by_file None f g = absurd (cc)
     by_file (Some file) f g =
         let same : page ≡ page_of site file = cc in
         ap (λ (p : PageState). redirect_of p closes) same
-        ∙ ap (λ (n : List ℕ). if redirects_to site.options n then Some (redirect_parts closes file) else None) (file_named-name site.files (name ++ index_tail) file f)
+        ∙ ap (λ (n : List ℕ). if redirects_to site.options n then Some (redirect_parts site.options closes file) else None) (file_named-name site.files (name ++ index_tail) file f)
         ∙ by_test (redirects_to site.options (name ++ index_tail)) file
-        ∙ ap (λ (o : Option File). option_map (redirect_parts closes) (if redirects_to site.options (name ++ index_tail) then o else None)) (sym f)
+        ∙ ap (λ (o : Option File). option_map (redirect_parts site.options closes) (if redirects_to site.options (name ++ index_tail) then o else None)) (sym f)
 
 -- the file that is found is sent, whatever folder has the name
 pub file_answer-found : (sent : Sent) (site : SiteState) (asked : Request) (name said : List ℕ) (page : PageState) (closes is_head : Bool) → name ≡ said → Some page ≡ found_in site name
@@ -88,7 +87,7 @@ moved_closes : (site : SiteState) (index : File) (closes is_head : Bool) → (re
 unfolding response
 moved_closes site index closes is_head = refl
 
-moved_head : (site : SiteState) (index : File) (closes is_head : Bool) → (response site MovedPermanently (Some index) Whole closes is_head).head ≡ redirect_head (folder_path index.0) closes
+moved_head : (site : SiteState) (index : File) (closes is_head : Bool) → (response site MovedPermanently (Some index) Whole closes is_head).head ≡ redirect_head site.options (folder_path index.0) closes
 unfolding response redirect_head head_text
 moved_head site index closes is_head = refl
 
@@ -97,13 +96,13 @@ unfolding response
 moved_body site index closes is_head = refl
 
 -- the redirect that is sent
-pub Sends-folder : (sent : Sent) (site : SiteState) (found : Option File) (head body : List ℕ) (closes is_head : Bool) → Some (head, body) ≡ option_map (redirect_parts closes) found
+pub Sends-folder : (sent : Sent) (site : SiteState) (found : Option File) (head body : List ℕ) (closes is_head : Bool) → Some (head, body) ≡ option_map (redirect_parts site.options closes) found
     → sent.code ≡ 301 → sent.closes ≡ closes → sent.parts.head ≡ head → sent.parts.body ≡ (if is_head then [] else body)
     → Sends sent (folder_answer site found closes is_head)
 Sends-folder sent site None head body closes is_head e code ends has_head has_body = absurd (cc)
 Sends-folder sent site (Some index) head body closes is_head e code ends has_head has_body = record {
   code = code ∙ sym (moved_code site index closes is_head);
   closes = ends ∙ sym (moved_closes site index closes is_head);
-  head = has_head ∙ (some_pair (head, body) (redirect_parts closes index) e).0 ∙ sym (moved_head site index closes is_head);
-  body = has_body ∙ ap (λ b. if is_head then [] else b) (some_pair (head, body) (redirect_parts closes index) e).1 ∙ sym (moved_body site index closes is_head);
+  head = has_head ∙ (some_pair (head, body) (redirect_parts site.options closes index) e).0 ∙ sym (moved_head site index closes is_head);
+  body = has_body ∙ ap (λ b. if is_head then [] else b) (some_pair (head, body) (redirect_parts site.options closes index) e).1 ∙ sym (moved_body site index closes is_head);
 }

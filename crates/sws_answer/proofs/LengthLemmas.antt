@@ -129,12 +129,14 @@ response-short site status file selection closes is_head within short fits =
       location = location_of (row_of status).has_location file;
       closes = closes;
       date = site.date;
+      max_age = site.options.added.max_age;
       range = range_of file selection;
       media_type = (content_of site status file selection).media_type;
       len = length (content_of site status file selection).bytes;
+      headers = site.options.added.headers;
     } in
     by_head (head_text head) (content_of site status file selection).bytes
-    (let head_short = head_text-short head content.media_type (omega arith) (range_of-short file selection short fits) in
+    (let head_short = head_text-short head content.media_type (omega arith) (range_of-short file selection short fits) site.options.added.short_age site.options.added.short_headers in
     let line = location-short (row_of status).has_location file short in omega (arith, head_short, line)) content.bytes is_head
   where
     by_head : (head bytes : List ℕ) → length head ≤ 8192 → length bytes ≤ size_limit → (t : Bool) → length (head ++ (if t then [] else bytes)) ≤ text_limit

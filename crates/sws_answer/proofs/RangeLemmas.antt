@@ -14,6 +14,7 @@ use Rattle.sws_request.specs.Request.{Request}
 use Rattle.httpdate.specs.declared.date.HttpDate.{HttpDate}
 use Rattle.sws_site.specs.declared.statuses.Status.TheVariants.{PartialContent, RangeNotSatisfiable}
 use Rattle.sws_site.specs.declared.heads.ContentRange.TheVariants.{Selected, NoSuch}
+use Rattle.sws_site.specs.declared.options.SiteOptions.{SiteOptions}
 use Rattle.sws_site.specs.ResponseHeads.{ResponseHead, head_text}
 use Rattle.sws_site.specs.Fixed.{plain_text}
 use Rattle.sws_site.specs.Limits.{size_limit}
@@ -154,31 +155,33 @@ length-part-le bytes first last limit short = omega (arith, length-take (last - 
 
 -- ---- the heads that say what is sent of a file
 
-abbrev pub part_head : Bool → ℕ → ℕ → Option HttpDate → List ℕ → List ℕ → ResponseHead
-part_head closes first last date media_type bytes =
+abbrev pub part_head : SiteOptions → Bool → ℕ → ℕ → Option HttpDate → List ℕ → List ℕ → ResponseHead
+part_head options closes first last date media_type bytes =
     record {
       status = PartialContent;
       location = None;
       closes = closes;
       date = date;
+      max_age = options.added.max_age;
       range = Some (Selected first last (length bytes));
       media_type = media_type;
       len = length (slice_range bytes first (last + 1));
+      headers = options.added.headers;
     }
 
-pub part_head-same : (closes : Bool) (first last : ℕ) (date other : Option HttpDate) (media_type media bytes contents : List ℕ) → date ≡ other → media_type ≡ media → bytes ≡ contents
-    → head_text (part_head closes first last date media_type bytes) ≡ head_text (part_head closes first last other media contents)
-part_head-same closes first last date other media_type media bytes contents d k b = cc
+pub part_head-same : (options : SiteOptions) (closes : Bool) (first last : ℕ) (date other : Option HttpDate) (media_type media bytes contents : List ℕ) → date ≡ other → media_type ≡ media → bytes ≡ contents
+    → head_text (part_head options closes first last date media_type bytes) ≡ head_text (part_head options closes first last other media contents)
+part_head-same options closes first last date other media_type media bytes contents d k b = cc
 
-pub part_head-short : (closes : Bool) (first last : ℕ) (date : Option HttpDate) (media_type bytes : List ℕ) → length media_type ≤ 80 → length bytes ≤ size_limit
-    → first ≤ last → last < length bytes → length (head_text (part_head closes first last date media_type bytes)) ≤ 320
-part_head-short closes first last date media_type bytes short few ordered within =
+pub part_head-short : (options : SiteOptions) (closes : Bool) (first last : ℕ) (date : Option HttpDate) (media_type bytes : List ℕ) → length media_type ≤ 80 → length bytes ≤ size_limit
+    → first ≤ last → last < length bytes → length (head_text (part_head options closes first last date media_type bytes)) ≤ 1360
+part_head-short options closes first last date media_type bytes short few ordered within =
     let part = length-part-le bytes first (last + 1) size_limit few in
-    head_text-short (part_head closes first last date media_type bytes) short (omega arith) (omega arith, omega arith, omega arith)
+    head_text-short (part_head options closes first last date media_type bytes) short (omega arith) (omega arith, omega arith, omega arith) options.added.short_age options.added.short_headers
 
-abbrev pub no_part_head : Bool → Option HttpDate → ℕ → ResponseHead
-no_part_head closes date len =
-    record { status = RangeNotSatisfiable; location = None; closes = closes; date = date; range = Some (NoSuch len); media_type = plain_text; len = 26 }
+abbrev pub no_part_head : SiteOptions → Bool → Option HttpDate → ℕ → ResponseHead
+no_part_head options closes date len =
+    record { status = RangeNotSatisfiable; location = None; closes = closes; date = date; max_age = options.added.max_age; range = Some (NoSuch len); media_type = plain_text; len = 26; headers = options.added.headers }
 
-pub no_part_head-short : (closes : Bool) (date : Option HttpDate) (len : ℕ) → len ≤ size_limit → length (head_text (no_part_head closes date len)) ≤ 320
-no_part_head-short closes date len few = head_text-short (no_part_head closes date len) (lit≤ tt) (lit< tt) (omega arith)
+pub no_part_head-short : (options : SiteOptions) (closes : Bool) (date : Option HttpDate) (len : ℕ) → len ≤ size_limit → length (head_text (no_part_head options closes date len)) ≤ 1360
+no_part_head-short options closes date len few = head_text-short (no_part_head options closes date len) (lit≤ tt) (lit< tt) (omega arith) options.added.short_age options.added.short_headers

@@ -5,7 +5,6 @@ use Rattle.std.specs.List.{flat_map}
 use Rattle.std.proofs.Common.{zero, suc, refl, sym, ap, ◌∙◌, arith, append-nil, length-append, ne_eqb}
 use Rattle.std.proofs.lemmas.List.{take-append-le, drop-append-le}
 use Rattle.std.proofs.lemmas.List.Concat.{flat_map-append}
-use Rattle.std.proofs.lemmas.Bool.{eqb-true}
 use Rattle.sws_request.specs.declared.cuts.Cut.{Cut}
 use Rattle.sws_request.specs.declared.cuts.Cut.TheVariants.{Head, TooLong, NotYet}
 use Rattle.sws_request.specs.Cuts.{cut_of}
@@ -112,11 +111,11 @@ take-append (suc n) (b ∷ bytes) more = let rest = take-append n bytes more in 
 pub answers_to-append : (site : SiteState) (bytes more : List ℕ) → Begins (answers_to site bytes) (answers_to site (bytes ++ more))
 unfolding answers_to
 answers_to-append site bytes more =
-    let counted = take-append input_limit bytes more in
-    let begins = answers-append answer_limit site (take input_limit bytes) counted.0 in
+    let counted = take-append (input_limit site) bytes more in
+    let begins = answers-append (answer_limit site) site (take (input_limit site) bytes) counted.0 in
     record {
       later = begins.later;
-      is = ap (λ b. answers answer_limit site b) counted.1 ∙ begins.is;
+      is = ap (λ b. answers (answer_limit site) site b) counted.1 ∙ begins.is;
     }
 
 -- the responses to more bytes begin with those to the first ones
@@ -150,18 +149,5 @@ pub responses_of-nil : (site : SiteState) → responses_of site [] ≡ []
 unfolding responses_of answers_to
 responses_of-nil site =
     let none : HasNoHeadWithin head_limit [] = (λ n within head. no-head (take n []) (take-nil n) head) in
-    ap (λ bytes. texts_of (answers answer_limit site bytes)) (take-nil input_limit)
-    ∙ ap texts_of (answers-not_yet answer_limit site [] (cut_of-is [] NotYet (none, omega arith)))
-
--- the last answer is the 64th
-pub is_last-left : (answered : ℕ) → answered < answer_limit → ((answer_limit - answered) == 1) ≡ (answered + 1 == answer_limit)
-is_last-left answered lt = by_last (answered + 1 == answer_limit) refl
-  where
-    by_last : (last : Bool) → last ≡ (answered + 1 == answer_limit) → ((answer_limit - answered) == 1) ≡ (answered + 1 == answer_limit)
-    by_last true e =
-        let n : answered ≡ 63 = (let f : answered + 1 ≡ 64 = eqb-true (answered + 1) 64 (sym e) in omega arith) in
-        ap (λ k. (answer_limit - k) == 1) n ∙ e
-    by_last false e = ne_eqb (answer_limit - answered) 1 (λ f. not_last (omega arith)) ∙ e
-      where
-        not_last : answered + 1 ≡ answer_limit → ⊥
-        not_last f = let g : true ≡ false = sym (ap (λ k. k == answer_limit) f) ∙ sym e in cc
+    ap (λ bytes. texts_of (answers (answer_limit site) site bytes)) (take-nil (input_limit site))
+    ∙ ap texts_of (answers-not_yet (answer_limit site) site [] (cut_of-is [] NotYet (none, omega arith)))

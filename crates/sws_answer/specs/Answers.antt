@@ -113,9 +113,11 @@ response site status file selection closes is_head =
         location = location_of (row_of status).has_location file;
         closes = closes;
         date = site.date;
+        max_age = site.options.added.max_age;
         range = range_of file selection;
         media_type = content.media_type;
         len = length content.bytes;
+        headers = site.options.added.headers;
       });
       body = if is_head then [] else content.bytes;
       target = [];

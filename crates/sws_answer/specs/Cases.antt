@@ -11,6 +11,7 @@ use Rattle.sws_site.specs.Files.{File, file_named}
 use Rattle.sws_site.specs.Folders.{folder_index}
 use Rattle.sws_site.specs.Site.{SiteState}
 use Rattle.sws_answer.specs.Fields.{values_of}
+use Rattle.sws_answer.specs.Framing.{is_ambiguous}
 use Rattle.sws_answer.specs.Targets.{path_and_query, name_of}
 use Rattle.sws_answer.specs.Conditions.{is_unmodified}
 use Rattle.sws_answer.specs.Ranges.{selection_for, is_part, is_unsatisfied}
@@ -20,6 +21,12 @@ abbrev pub lacks_host : Request → Bool
 lacks_host asked =
     let hosts = length (values_of (codes "host") asked.fields) in
     nat_lt 1 hosts || (hosts == 0 && asked.minor == 1)
+
+-- the site refuses the request whatever it asks: it lacks a host, or is one that another server may
+-- read otherwise, where the site refuses such
+abbrev pub is_malformed : SiteState → Request → Bool
+is_malformed site asked =
+    lacks_host asked || (site.options.refuses_ambiguous && is_ambiguous asked.fields)
 
 -- the word is one of the list, byte for byte
 abbrev pub is_one_of : List (List ℕ) → List ℕ → Bool
@@ -56,7 +63,7 @@ first_case (row ∷ rows) otherwise = if row.0 then row.1 else first_case rows o
 -- the cases of a request, with the status of each
 abbrev pub request_cases : SiteState → Request → List (Bool × Status)
 request_cases site asked =
-    (lacks_host asked, BadRequest)
+    (is_malformed site asked, BadRequest)
     ∷ (is_one_of other_methods asked.method, MethodNotAllowed)
     ∷ (not (is_one_of file_methods asked.method), NotImplemented)
     ∷ (is_none (path_and_query asked.target), BadRequest)

@@ -4,6 +4,7 @@ use Rattle.std.specs.Prelude.{ℕ, length, Bool, if◌then◌else◌, List, Opti
 use Rattle.sws_request.specs.Request.{Request}
 use Rattle.sws_site.specs.declared.statuses.Status.{Status}
 use Rattle.sws_site.specs.declared.statuses.Status.TheVariants.{Success, PartialContent, MovedPermanently, NotModified, NotFound, RangeNotSatisfiable}
+use Rattle.sws_site.specs.declared.options.SiteOptions.{SiteOptions}
 use Rattle.sws_site.specs.Files.{File, file_named}
 use Rattle.sws_site.specs.Fixed.{fixed_body}
 use Rattle.sws_site.specs.Folders.{folder_index, folder_path, redirect_head}
@@ -20,10 +21,10 @@ status_by Whole = Success
 status_by (Part first last) = PartialContent
 status_by Unsatisfied = RangeNotSatisfiable
 
--- head and body of the redirect to the folder of the index
-abbrev pub redirect_parts : Bool → File → List ℕ × List ℕ
-redirect_parts closes index =
-    (redirect_head (folder_path index.0) closes, fixed_body MovedPermanently)
+-- head and body of the redirect to the folder of the index, in a site with these options
+abbrev pub redirect_parts : SiteOptions → Bool → File → List ℕ × List ℕ
+redirect_parts options closes index =
+    (redirect_head options (folder_path index.0) closes, fixed_body MovedPermanently)
 
 -- the answer to a request whose name no file has, by the index of the folder of that name
 abbrev pub folder_answer : SiteState → Option File → Bool → Bool → Answer

@@ -3,6 +3,7 @@ pub mod Targets
 pub mod DotSteps
 pub mod Conditions
 pub mod Closing
+pub mod Framing
 pub mod Ranges
 pub mod Asked
 pub mod Cases

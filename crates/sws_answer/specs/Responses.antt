@@ -1,6 +1,6 @@
 -- What is sent for the bytes of a whole connection: heads are answered in order, one after another
 -- (RFC 9112, section 9.3.2).
-use Rattle.std.specs.Prelude.{◌≡◌, ◌++◌, ℕ, zero, suc, Bool, ◌==◌, if◌then◌else◌, List, [], ◌∷◌, take, drop}
+use Rattle.std.specs.Prelude.{◌≡◌, ◌++◌, ℕ, zero, suc, Bool, ◌==◌, if◌then◌else◌, min, max, List, [], ◌∷◌, take, drop}
 use Rattle.std.specs.List.{flat_map, list_any}
 use Rattle.sws_request.specs.declared.cuts.Cut.{Cut}
 use Rattle.sws_request.specs.declared.cuts.Cut.TheVariants.{Head, TooLong, NotYet}
@@ -9,13 +9,13 @@ use Rattle.sws_site.specs.Site.{SiteState}
 use Rattle.sws_answer.specs.Asked.{too_long, asked_by}
 use Rattle.sws_answer.specs.Answers.{Answer, answer_of, text_of}
 
--- so many bytes of a connection count
-abbrev pub input_limit : ℕ
-input_limit = 65536
+-- so many bytes of a connection count, one at least, and no more than 32 bits can say
+abbrev pub input_limit : SiteState → ℕ
+input_limit site = min (max site.options.input 1) 4294967295
 
--- and so many heads are answered
-abbrev pub answer_limit : ℕ
-answer_limit = 64
+-- and so many heads are answered, one at least, and no more than 16 bits can say
+abbrev pub answer_limit : SiteState → ℕ
+answer_limit site = min (max site.options.answers 1) 65535
 
 -- an answer, and those after it unless it closes
 abbrev pub answers_from : Answer → List Answer → List Answer
@@ -36,7 +36,7 @@ answers (suc more) site bytes =
 
 -- the answers to all bytes of a connection
 unfoldable pub answers_to : SiteState → List ℕ → List Answer
-answers_to site bytes = answers answer_limit site (take input_limit bytes)
+answers_to site bytes = answers (answer_limit site) site (take (input_limit site) bytes)
 
 -- their texts, one after another
 abbrev pub texts_of : List Answer → List ℕ

@@ -1,7 +1,7 @@
 //! The answer to one head.
 ghost use Rattle.std.specs.Prelude.{◌≡◌, ◌≤◌, ◌<◌, ◌∷◌, IsTrue, Bool, true, false, not, ◌||◌, length, [], codes, if◌then◌else◌, Option, None, Some, option_map};
 ghost use Rattle.sws_site.specs.declared.statuses.Status.{Status as StatusValue};
-ghost use Rattle.sws_answer.specs.Cases.{lacks_host, is_one_of, file_methods, other_methods};
+ghost use Rattle.sws_answer.specs.Cases.{lacks_host, is_malformed, is_one_of, file_methods, other_methods};
 ghost use Rattle.sws_answer.specs.Answers.{is_head_request, response, request_answer, answer_of};
 ghost use Rattle.sws_site.specs.Files.{File};
 ghost use Rattle.sws_site.specs.Folders.{folder_index};
@@ -18,6 +18,7 @@ use crate::asking::Asked;
 use crate::closing::closes_connection;
 use crate::conditions::is_not_modified;
 use crate::fields::count_of;
+use crate::framing::is_read_in_two_ways;
 use crate::path_room::PathRoom;
 use crate::ranges::{Selection, select_part};
 use crate::targets::{behind_first_slash, path_part, write_name};
@@ -31,6 +32,13 @@ fn is_without_host(request: &RequestView<'_>) -> bool
 {
     let hosts = count_of(request, b"host");
     hosts > 1 || hosts == 0 && request.minor() == 1
+}
+
+/// Whether the site refuses the request whatever it asks.
+fn is_refused(site: &Site, request: &RequestView<'_>) -> bool
+    ensures { result ≡ is_malformed site.now request.now }
+{
+    is_without_host(request) || site.options().refuses_ambiguous && is_read_in_two_ways(request)
 }
 
 /// Whether the method is known, and no method of a file.
@@ -147,6 +155,7 @@ fn send_part<'s>(
     let body = page.body();
     let part = &body[first..last + 1];
     let head = write_head(&HeadParts {
+        options: site.options(),
         status: Status::PartialContent,
         closes,
         date: site.http_date(),
@@ -174,6 +183,7 @@ fn refuse_range<'s>(site: &'s Site, page: &Page<'s>, closes: bool, is_head: bool
         (Some page.now.file) Unsatisfied closes is_head) }
 {
     let head = write_head(&HeadParts {
+        options: site.options(),
         status: Status::RangeNotSatisfiable,
         closes,
         date: site.http_date(),
@@ -220,7 +230,7 @@ fn redirect_parts<'s>(
     room: &mut PathRoom,
 ) -> Option<(&'s [u8], &'s [u8])>
     ensures { option_map (λ parts. (parts.0.now, parts.1.now)) result
-        ≡ option_map (parts_to closes) (folder_index site.now room.old) }
+        ≡ option_map (parts_to site.now.options closes) (folder_index site.now room.old) }
 {
     if !site.options().redirects_to_folders {
         return None;
@@ -292,7 +302,7 @@ fn answer_request<'s>(
 {
     let closes = closes_after(request, last);
     let is_head = leaves_content_out(request);
-    if is_without_host(request) {
+    if is_refused(site, request) {
         return refuse(site, Status::BadRequest, true, is_head);
     }
     if is_other_method(request.method()) {

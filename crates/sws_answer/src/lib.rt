@@ -26,6 +26,7 @@ mod closing;
 mod conditions;
 mod dot_segments;
 mod fields;
+mod framing;
 pub mod laws;
 mod path_room;
 mod ranges;

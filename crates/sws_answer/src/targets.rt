@@ -116,11 +116,11 @@ fn decode(path: &[u8], room: &mut PathRoom) -> bool
 
 /// Reads the path, which stands without its first slash, into the room, and says whether there was
 /// room for it.
-fn read_path(options: SiteOptions, path: &[u8], room: &mut PathRoom) -> bool
+fn read_path(options: &SiteOptions, path: &[u8], room: &mut PathRoom) -> bool
     requires { room.old ≡ [] }
-    ensures read { result ≡ true → room.new ≡ path_read options (slash ∷ path.now) }
+    ensures read { result ≡ true → room.new ≡ path_read options.now (slash ∷ path.now) }
     ensures outgrown { result ≡ false
-        → PATH_ROOM < length (path_read options (slash ∷ path.now)) }
+        → PATH_ROOM < length (path_read options.now (slash ∷ path.now)) }
 {
     if options.removes_dot_segments && path.len() < MAX_HEAD {
         decode_without_dots(path, room);
@@ -138,10 +138,10 @@ fn is_folder(name: &[u8]) -> bool
 
 /// Writes the name that a path says, which stands without its first slash, into the room, and says
 /// whether there was room for it.
-pub fn write_name(options: SiteOptions, path: &[u8], room: &mut PathRoom) -> bool
-    ensures written { result ≡ true → room.new ≡ name_said_by options (slash ∷ path.now) }
+pub fn write_name(options: &SiteOptions, path: &[u8], room: &mut PathRoom) -> bool
+    ensures written { result ≡ true → room.new ≡ name_said_by options.now (slash ∷ path.now) }
     ensures outgrown { result ≡ false
-        → PATH_ROOM < length (name_said_by options (slash ∷ path.now)) }
+        → PATH_ROOM < length (name_said_by options.now (slash ∷ path.now)) }
 {
     room.clear();
     if !read_path(options, path, room) {

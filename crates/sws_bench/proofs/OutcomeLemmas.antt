@@ -1,16 +1,16 @@
 -- What becomes of a connection of the bench.
-use Rattle.std.proofs.Common.{◌≡◌, ℕ, ◌<◌, Bool, true, false, List, [], ◌∷◌, ◌++◌, length, map, take, refl, ap, ◌∙◌, arith, cond}
+use Rattle.std.proofs.Common.{◌≡◌, ℕ, ◌<◌, nat_le, Bool, true, false, List, [], ◌∷◌, ◌++◌, length, map, take, refl, ap, ◌∙◌, arith, cond}
 use Rattle.std.specs.List.{flat_map, range_with_len, sum}
 use Rattle.std.proofs.lemmas.Bool.{lt-leb}
 use Rattle.std.proofs.lemmas.Simd.{map-map}
 use Rattle.sws_link.specs.LinkItems.{all_bytes}
 use Rattle.sws_site.specs.Site.{SiteState}
-use Rattle.sws_answer.specs.Responses.{answers_to, is_closed}
+use Rattle.sws_answer.specs.Responses.{answers_to, is_closed, input_limit}
 use Rattle.sws_script.specs.Scripted.{script_of, link_items}
 use Rattle.sws_script.specs.declared.input.ScriptConn.{ScriptConn}
 use Rattle.sws_steps.specs.declared.End.TheVariants.{Done}
 use Rattle.sws_conn.specs.Outcome.{Input, at_end, at_limit, prepend_bytes, input_from, limit_input, end_of, scripted_input, outcome_of}
-use Rattle.sws_bench.specs.BenchScript.{bytes_from, piece_size, pieces, sends, conn_from, conn_state, bench_conns, bench_bytes}
+use Rattle.sws_bench.specs.BenchScript.{bytes_from, piece_size, pieces, sends, conn_from, conn_state, bench_conns, bench_bytes, HasRoom}
 use Rattle.sws_bench.proofs.PieceLemmas.{joined}
 use Rattle.sws_bench.proofs.ConnLemmas.{length-bytes_from}
 
@@ -43,22 +43,40 @@ input_of_pieces waits ((byte ∷ bytes) ∷ parts) = ap (prepend_bytes (byte ∷
 not_limited : (limit : ℕ) (input : Input) → length input.bytes < limit → limit_input limit input ≡ input
 not_limited limit input short = λ i. cond (lt-leb limit (length input.bytes) short i) (record { bytes = take limit input.bytes; stop = at_limit }) input
 
--- all that it sends counts, and its input ends behind it
-pub scripted_input-conn_from : (state : ℕ) → scripted_input (script_of (conn_from state)) ≡ whole (bytes_from state)
+-- its input ends behind all that it sends, as far as the site lets it count
+scripted_input-limited : (site : SiteState) (state : ℕ) → scripted_input site (script_of (conn_from state)) ≡ limit_input (input_limit site) (whole (bytes_from state))
 unfolding conn_from
-scripted_input-conn_from state =
+scripted_input-limited site state =
     let parts = pieces (piece_size state) (bytes_from state) in
+    ap (limit_input (input_limit site)) (input_of_pieces 0 parts ∙ ap whole (joined (piece_size state) (bytes_from state) (omega arith)))
+
+-- all that it sends counts where the site has room for it
+pub scripted_input-conn_from : (site : SiteState) (state : ℕ) → HasRoom site → scripted_input site (script_of (conn_from state)) ≡ whole (bytes_from state)
+scripted_input-conn_from site state room =
     let short = length-bytes_from state in
-    ap (limit_input 65536) (input_of_pieces 0 parts ∙ ap whole (joined (piece_size state) (bytes_from state) (omega arith)))
-    ∙ not_limited 65536 (whole (bytes_from state)) (omega arith)
+    let more = room.input in
+    scripted_input-limited site state
+    ∙ not_limited (input_limit site) (whole (bytes_from state)) (omega (arith, short, more))
 
 done : (closed : Bool) → end_of closed at_end ≡ Done
 done true = refl
 done false = refl
 
+done_at_limit : (closed : Bool) → end_of closed at_limit ≡ Done
+done_at_limit true = refl
+done_at_limit false = refl
+
+-- an input that ends well does so too where not all of it counts
+limited_done : (site : SiteState) (limit : ℕ) (bytes : List ℕ) → (let input = limit_input limit (whole bytes) in end_of (is_closed (answers_to site input.bytes)) input.stop) ≡ Done
+limited_done site limit bytes = by_test (nat_le limit (length bytes))
+  where
+    by_test : (b : Bool) → (let input = cond b (record { bytes = take limit bytes; stop = at_limit }) (whole bytes) in end_of (is_closed (answers_to site input.bytes)) input.stop) ≡ Done
+    by_test true = done_at_limit (is_closed (answers_to site (take limit bytes)))
+    by_test false = done (is_closed (answers_to site bytes))
+
 -- so it is done
 pub ends_done : (site : SiteState) (state : ℕ) → (outcome_of site (script_of (conn_from state))).end ≡ Done
 unfolding conn_from
 ends_done site state =
-    ap (λ (input : Input). end_of (is_closed (answers_to site input.bytes)) input.stop) (scripted_input-conn_from state)
-    ∙ done (is_closed (answers_to site (bytes_from state)))
+    ap (λ (input : Input). end_of (is_closed (answers_to site input.bytes)) input.stop) (scripted_input-limited site state)
+    ∙ limited_done site (input_limit site) (bytes_from state)

@@ -203,9 +203,14 @@ fine_case ((true, status) ∷ rows) otherwise fine (inl none, all) = absurd (tru
 fine_case ((true, status) ∷ rows) otherwise fine (inr kept, all) = kept
 fine_case ((false, status) ∷ rows) otherwise fine all = fine_case rows otherwise fine all.1
 
+-- a request that nobody reads otherwise isn't refused, whatever the site refuses
+never : (refuses : Bool) → (refuses && false) ≡ false
+never true = refl
+never false = refl
+
 stays : (site : SiteState) (digits : List ℕ) → (row_of (request_status site (asked_for digits))).closes ≡ false
 unfolding request_status
-stays site digits = fine_case (request_cases site (asked_for digits)) Success refl (inl refl, (inr refl, (inr refl, (inl refl, (inr refl, (inr refl, (inr refl, (inr refl, (inr refl, tt)))))))))
+stays site digits = fine_case (request_cases site (asked_for digits)) Success refl (inl (never site.options.refuses_ambiguous), (inr refl, (inr refl, (inl refl, (inr refl, (inr refl, (inr refl, (inr refl, (inr refl, tt)))))))))
 
 both_false : (a b : Bool) → a ≡ false → b ≡ false → (a || b || false) ≡ false
 both_false true b none other = absurd (true≢false none)

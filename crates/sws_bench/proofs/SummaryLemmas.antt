@@ -18,6 +18,8 @@ use Rattle.sws_link.specs.MemLink.{MemLinkState}
 use Rattle.sws_link.specs.MemWorld.{MemWorldState}
 use Rattle.sws_script.specs.declared.input.ScriptConn.{ScriptConn}
 use Rattle.sws_site.specs.Site.{SiteState}
+use Rattle.sws_conn.specs.HttpLaws.{http-orderly}
+use Rattle.sws_steps.specs.Protocol.{most_input, most_output}
 use Rattle.sws_replay.specs.Expected.{by_http}
 use Rattle.sws_replay.specs.Transcripts.{alone}
 use Rattle.sws_replay.specs.Runs.{ServesAll}
@@ -69,25 +71,27 @@ module _ (site : SiteState) (conns : List ScriptConn) (ended : Ended MemWorldSta
       ∙ maps_same (λ (s : Served MemLinkState). s.end) (λ conn. Some (alone (by_http site) conn).end) ended.served.items conns serves.many (λ i conn s at there. (serves.each i conn s at there).end)
       ∙ sym (map-map (λ (end : End). Some end) (λ conn. (alone (by_http site) conn).end) conns))
 
-  few_written : All (λ s. s.written ≤ 2 ^ 40) ended.served.items
+  few_written : All (λ s. s.written ≤ most_output) ended.served.items
   few_written =
-      All-from_recursion (λ (s : Served MemLinkState). s.written ≤ 2 ^ 40) ended.served.items
-      (all_have (λ (s : Served MemLinkState). s.written ≤ 2 ^ 40) ended.served.items conns serves.many (λ i conn s at there. let few = (serves.each i conn s at there).few_written in omega arith))
+      All-from_recursion (λ (s : Served MemLinkState). s.written ≤ most_output) ended.served.items
+      (all_have (λ (s : Served MemLinkState). s.written ≤ most_output) ended.served.items conns serves.many
+      (λ i conn s at there. let few = (serves.each i conn s at there).few_written in let most = http-orderly.few_written site in omega (arith, few, most)))
 
   written_fits : length conns ≤ 1024 → sum_by (λ s. s.written) ended.served.items < 2 ^ 64
   written_fits few =
-      let all = sum_by-le (λ (s : Served MemLinkState). s.written) (2 ^ 40) ended.served.items few_written in
+      let all = sum_by-le (λ (s : Served MemLinkState). s.written) most_output ended.served.items few_written in
       let many = serves.many in
       omega (arith, all, many)
 
-  few_read : All (λ s. s.read ≤ 2 ^ 40) ended.served.items
+  few_read : All (λ s. s.read ≤ most_input) ended.served.items
   few_read =
-      All-from_recursion (λ (s : Served MemLinkState). s.read ≤ 2 ^ 40) ended.served.items
-      (all_have (λ (s : Served MemLinkState). s.read ≤ 2 ^ 40) ended.served.items conns serves.many (λ i conn s at there. let few = (serves.each i conn s at there).few_read in omega arith))
+      All-from_recursion (λ (s : Served MemLinkState). s.read ≤ most_input) ended.served.items
+      (all_have (λ (s : Served MemLinkState). s.read ≤ most_input) ended.served.items conns serves.many
+      (λ i conn s at there. let few = (serves.each i conn s at there).few_read in let most = http-orderly.few_input site in omega (arith, few, most)))
 
   read_fits : length conns ≤ 1024 → sum_by (λ s. s.read) ended.served.items < 2 ^ 64
   read_fits few =
-      let all = sum_by-le (λ (s : Served MemLinkState). s.read) (2 ^ 40) ended.served.items few_read in
+      let all = sum_by-le (λ (s : Served MemLinkState). s.read) most_input ended.served.items few_read in
       let many = serves.many in
       omega (arith, all, many)
 

@@ -1,12 +1,14 @@
 -- The connections of a bench, each by what draws give from a state on: how many requests it has,
 -- which file each asks for, and the size of the pieces in which its bytes come.
-use Rattle.std.specs.Prelude.{ℕ, zero, suc, ◌+◌, ◌%◌, List, ◌++◌, length, map, sum, codes, None}
+use Rattle.std.specs.Prelude.{ℕ, zero, suc, ◌+◌, ◌%◌, ◌<◌, List, ◌++◌, length, map, sum, codes, None}
 use Rattle.std.specs.List.{flat_map, range_with_len}
 use Rattle.std.specs.Int.{div_ceil}
 use Rattle.std.specs.Fmt.{decimal}
 use Rattle.std.specs.Fork.{slice_chunk}
 use Rattle.sws_link.specs.LinkItems.{all_bytes}
 use Rattle.sws_site.specs.ResponseHeads.{line_end}
+use Rattle.sws_site.specs.Site.{SiteState}
+use Rattle.sws_answer.specs.Responses.{input_limit, answer_limit}
 use Rattle.sws_script.specs.declared.input.Item.{Item}
 use Rattle.sws_script.specs.declared.input.Item.TheVariants.{Send}
 use Rattle.sws_script.specs.declared.input.ScriptConn.{ScriptConn}
@@ -74,3 +76,8 @@ bench_conns number count = map (λ conn. conn_from (conn_state number conn)) (ra
 unfoldable pub bench_bytes : ℕ → ℕ → ℕ
 bench_bytes number count =
     sum (map (λ conn. length (all_bytes (script_of conn).items)) (bench_conns number count))
+
+-- of a connection more bytes count, and more requests are answered, than any of these has
+pub record HasRoom (site : SiteState) : Type 0 where
+  pub input : 272 < input_limit site
+  pub answers : 8 < answer_limit site

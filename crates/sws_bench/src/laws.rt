@@ -12,7 +12,7 @@ ghost use Rattle.sws_script.specs.Scripted.{script_of};
 ghost use Rattle.sws_steps.specs.declared.End.TheVariants.{Done};
 ghost use Rattle.sws_conn.specs.Outcome.{outcome_of};
 ghost use Rattle.sws_bench.specs.Draws.{draw};
-ghost use Rattle.sws_bench.specs.BenchScript.{bytes_from, conn_from, bench_conns, bench_bytes};
+ghost use Rattle.sws_bench.specs.BenchScript.{bytes_from, conn_from, bench_conns, bench_bytes, HasRoom};
 
 /// The pieces of a connection are its bytes, and whatever it asks for, it is done in the end.
 pub fn each_connection_is_done()
@@ -21,14 +21,15 @@ pub fn each_connection_is_done()
         → (outcome_of site (script_of (conn_from state))).end ≡ Done }
 {}
 
-/// A connection that was served as if it were alone was read to its end, and so what the links of a
-/// bench gave is all that its connections send.
+/// Out of a site with room for it, as that of a bench is, a connection that was served as if it were
+/// alone was read to its end, and so what the links of a bench gave is all that its connections
+/// send.
 pub fn all_that_is_sent_is_read()
     ensures one { (site : SiteState) (state : ℕ) (served : Served MemLinkState)
-        → IsServedAlone (by_http site) (conn_from state) served
+        → HasRoom site → IsServedAlone (by_http site) (conn_from state) served
         → served.read ≡ length (bytes_from state) }
     ensures all { (site : SiteState) (number count : ℕ) (ended : Ended MemWorldState MemLinkState)
-        → ServesAll (by_http site) (bench_conns number count) ended
+        → HasRoom site → ServesAll (by_http site) (bench_conns number count) ended
         → sum_by (λ conn. conn.read) ended.served.items ≡ bench_bytes number count }
 {}
 

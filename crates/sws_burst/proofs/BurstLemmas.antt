@@ -1,21 +1,18 @@
 -- Bursts of steps that follow one another, and their paths.
-use Rattle.std.specs.Prelude.{◌||◌, ◌==◌, ◌-◌, if◌then◌else◌, map, option_map, IsTrue}
-use Rattle.std.proofs.Common.{inl, inr, ◌⊎◌, ◌≡◌, ◌∙◌, ℕ, zero, suc, Bool, true, false, List, [], ◌∷◌, ◌++◌, Option, Some, None, refl, sym, ap, subst, arith, append_assoc, append-nil}
+use Rattle.std.specs.Prelude.{◌-◌, if◌then◌else◌, option_map}
+use Rattle.std.proofs.Common.{inl, inr, ◌≡◌, ◌∙◌, ℕ, zero, suc, Bool, true, false, List, [], ◌∷◌, ◌++◌, Option, Some, None, refl, sym, ap, subst, append_assoc}
 use Rattle.std.proofs.lemmas.List.{map-append}
 use Rattle.sws_link.specs.Links.{LinkContents}
 use Rattle.sws_link.specs.Scripts.{Script}
-use Rattle.sws_steps.specs.declared.End.{End}
 use Rattle.sws_steps.specs.declared.Handler.{Handler}
 use Rattle.sws_steps.specs.declared.Handler.TheVariants as handler
 use Rattle.sws_steps.specs.declared.Next.{Next}
 use Rattle.sws_steps.specs.declared.Next.TheVariants as next
 use Rattle.sws_steps.specs.ConnCore.{reported_by}
-use Rattle.sws_steps.specs.Logs.{Step, last_line}
-use Rattle.sws_steps.specs.Outcome.{UnlessMemory}
+use Rattle.sws_steps.specs.Logs.{last_line}
 use Rattle.sws_steps.specs.Path.{TakesOff, answers_to_come, due_after}
-use Rattle.sws_steps.specs.Talks.{HasNoStep, TalkView, due, path_to_come, IsDue, BeginsWith, StepsBy, StepsOf, StepsServed}
-use Rattle.sws_steps.proofs.Runs.PathLemmas.{unless-map}
-use Rattle.sws_burst.specs.Bursts.{HasBurst, IsBetween, begins, burst_limit, is_awaited, is_quiet, is_ready, spend, bursts_from, bursts_of, left_after, left_of, plain_step, plain_steps, unlogged}
+use Rattle.sws_steps.specs.Talks.{HasNoStep, TalkView, due, path_to_come, IsDue, BeginsWith, StepsBy, StepsServed}
+use Rattle.sws_burst.specs.Bursts.{HasBurst, IsBetween, begins, burst_limit, is_awaited, is_quiet, is_ready, spend, bursts_from, bursts_of, left_after, left_of, plain_step, plain_steps}
 use Rattle.sws_burst.specs.Laws.{plain-handlers}
 
 -- ---- steps behind steps
@@ -44,7 +41,7 @@ left-append left (step ∷ front) back = left-append (left_after left step) fron
 -- ---- between two bursts
 
 -- a burst begins with the step, whatever the one before it had left
-begins-quiet : (left : ℕ) (step : Handler) → is_awaited step ≡ true → begins left step ≡ true
+pub begins-quiet : (left : ℕ) (step : Handler) → is_awaited step ≡ true → begins left step ≡ true
 begins-quiet zero step awaited = refl
 begins-quiet (suc left) step awaited = awaited
 
@@ -148,7 +145,7 @@ pub record Bursting {T L : Type 0} (has_run : L → List Handler → T → Type 
   pub left_is : left_of (burst_limit - 1) later ≡ left
 
 -- a step that can be made at once
-at-once : (now : Next) → is_ready now ≡ true → (event : Handler) × (due_after now ≡ Some event) × (is_awaited event ≡ false)
+pub at-once : (now : Next) → is_ready now ≡ true → (event : Handler) × (due_after now ≡ Some event) × (is_awaited event ≡ false)
 at-once next.Open ready = cc
 at-once next.Read ready = (handler.Read, refl, refl)
 at-once next.Parse ready = (handler.Parse, refl, refl)

@@ -1,1 +1,2 @@
 mod BurstLemmas
+mod LoggedLemmas

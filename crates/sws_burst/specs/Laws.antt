@@ -1,7 +1,6 @@
 -- Laws of events that give no line.
 use Rattle.std.specs.Prelude.{map}
 use Rattle.std.proofs.Common.{◌≡◌, List, [], ◌∷◌, refl, ap}
-use Rattle.sws_log.specs.declared.line.LogLine.{LogLine}
 use Rattle.sws_steps.specs.declared.Handler.{Handler}
 use Rattle.sws_steps.specs.Logs.{IsLogPrefix}
 use Rattle.sws_burst.specs.Bursts.{plain_steps}

@@ -1,2 +1,3 @@
 pub mod Bursts
 pub mod Laws
+pub mod LoggedBursts

@@ -15,7 +15,7 @@ use sws_steps::{End, Next, Talk};
 pub const BURST: u32 = 32;
 
 /// Whether a burst goes on after a step that answered this.
-fn goes_on(next: Next) -> bool
+pub(crate) fn goes_on(next: Next) -> bool
     ensures { result ≡ is_ready next }
 {
     match next {
@@ -59,6 +59,10 @@ impl<L: Link, T: Talk<L> + Drop> Talk<L> for Bursts<T> {
     ghost told = { λ bursts. false };
 
     ghost steps = { λ hall script. plain_steps (bursts_of (T.path hall script)) };
+
+    ghost input_limit = { T.input_limit };
+
+    ghost output_limit = { T.output_limit };
 
     fn make(alloc: Global, hall: T::Hall) -> Result<Bursts<T>, Memory> {
         Ok(Bursts {
@@ -120,6 +124,10 @@ impl<L: Link, T: Talk<L> + Drop> Talk<L> for Bursts<T> {
     ghost log_begins = { λ hall conn front bytes begins. empty-begins };
 
     ghost steps_are = { λ hall script. plain-handlers (bursts_of (T.path hall script)) };
+
+    ghost few_input = { T.few_input };
+
+    ghost few_output = { T.few_output };
 
     ghost unkept = { λ bursts. T.unkept bursts.talk };
 }

@@ -10,9 +10,9 @@ use std::io::{self, Write};
 use std::sync::Wait;
 use std::thread::Threads;
 use sws_conn::{Conn, Talk};
+use sws_files::StdSink;
 use sws_gopher::GopherConn;
 use sws_link::{Folder, Sink, Source, World};
-use sws_net::StdSink;
 use sws_top::{TopFault, sws};
 
 /// A sink whose output is to be handed over at the end.

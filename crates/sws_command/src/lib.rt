@@ -30,7 +30,8 @@ use std::process::ExitCode;
 use std::sync::Wait;
 use std::thread::Threads;
 use std::{env, io};
-use sws_net::{FileFolder, Output, StdSink, StdSource, TcpWorld};
+use sws_files::{FileFolder, Output, StdSink, StdSource};
+use sws_net::TcpWorld;
 use sws_top::TopFault;
 use sws_words::{WordFault, read_words};
 

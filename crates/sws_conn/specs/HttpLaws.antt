@@ -1,5 +1,5 @@
 -- HTTP answers in order.
-use Rattle.std.specs.Prelude.{◌==◌}
+use Rattle.std.specs.Prelude.{◌==◌, min, max}
 use Rattle.std.specs.List.{flat_map}
 use Rattle.std.proofs.Common.{◌≡◌, ℕ, zero, suc, ◌-◌, ◌<◌, ◌≤◌, List, [], ◌∷◌, ◌++◌, length, take, drop, refl, sym, ap, ◌∙◌, arith, length-append, length-take, take_all, ne_eqb, lit<}
 use Rattle.std.proofs.lemmas.List.{drop_all}
@@ -96,7 +96,8 @@ none-left site bytes = refl
 
 -- the answers are those to the bytes that count
 all-counted : (site : SiteState) (bytes : List ℕ)
-    → answers_to site bytes ≡ answers answer_limit site (take input_limit bytes)
+    → answers_to site bytes
+    ≡ answers (answer_limit site) site (take (input_limit site) bytes)
 unfolding answers_to
 all-counted site bytes = refl
 
@@ -105,6 +106,13 @@ all-texts : (site : SiteState) (bytes : List ℕ)
     → responses_of site bytes ≡ texts_of (answers_to site bytes)
 unfolding responses_of
 all-texts site bytes = refl
+
+-- what is one at least and no more than some number has both ends
+some-within : (n most : ℕ) → 0 < most → 0 < min (max n 1) most
+some-within n most some = omega (arith, some)
+
+few-within : (n most : ℕ) → min (max n 1) most ≤ most
+few-within n most = omega arith
 
 -- HTTP is a protocol by which requests are answered in order
 pub http-orderly : IsOrderly http
@@ -129,10 +137,10 @@ http-orderly = record {
   all = all-counted;
   texts = all-texts;
   nothing = ap cut_by nothing_cut;
-  some_input = lit< tt;
-  some_answers = lit< tt;
-  few_input = lit< tt;
-  few_written = lit< tt;
+  some_input = λ site. some-within site.options.input 4294967295 (lit< tt);
+  some_answers = λ site. some-within site.options.answers 65535 (lit< tt);
+  few_input = λ site. few-within site.options.input 4294967295;
+  few_written = λ site. let few = few-within site.options.answers 65535 in omega (arith, few);
 }
 
 -- a read finds room behind the buffer

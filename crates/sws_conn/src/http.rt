@@ -15,12 +15,6 @@ use sws_request::Cut;
 use sws_site::Site;
 use sws_steps::{Note, Speech, SpeechConn};
 
-/// The most bytes that are read of a connection.
-const MAX_INPUT: u64 = 65536;
-
-/// The most answers of a connection: the last of them closes it.
-const MAX_ANSWERS: u8 = 64;
-
 /// The heads in the bytes that were taken, answered out of a site.
 #[derive(Drop)]
 pub struct Http<'s> {
@@ -70,11 +64,11 @@ impl<'s> Speech for Http<'s> {
     }
 
     fn input_limit(&self) -> u64 {
-        MAX_INPUT
+        u64::from(self.site.options().input).max(1)
     }
 
-    fn answer_limit(&self) -> u8 {
-        MAX_ANSWERS
+    fn answer_limit(&self) -> u16 {
+        self.site.options().answers.max(1)
     }
 
     fn logs(&self) -> bool {

@@ -9,8 +9,10 @@
 //! connection to its end. A server that runs many connections knows them by the trait [`Talk`], in
 //! which nothing is said of what they talk about.
 //!
-//! A connection ends after its last response, at the end of its input or after 65,536 bytes of it,
-//! after 30 answers in succession that the link isn't ready, and where the link fails.
+//! A connection ends after its last response, at the end of its input or of the part that counts,
+//! after 30 answers in succession that the link isn't ready, and where the link fails. How many
+//! bytes count and how many requests are answered is an option of the site, at most 4,294,967,295
+//! and 65,535; of a plain site these are 65,536 and 64.
 //!
 //! Out of memory is the only error whose cause isn't specified, so a `new` that always answers it
 //! is detected by tests alone.

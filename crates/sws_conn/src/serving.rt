@@ -23,8 +23,8 @@ use sws_site::Site;
 /// is the responses to the whole input. A link that tells its answers to come gets exactly what its
 /// script says, and ends so, unless it found no memory in a write. `Fault` comes only where the
 /// link's count of faults rose, and `Idle` only where it was not ready 30 times more, or that count
-/// is full. `Done` comes only where the input has ended, 65,536 bytes were taken or an answer
-/// closes, and at a fault of reading all that was taken has been answered.
+/// is full. `Done` comes only where the input has ended, as many bytes were taken as the site lets
+/// count or an answer closes, and at a fault of reading all that was taken has been answered.
 ///
 /// Where the room for the connection was refused, the link comes back as it was.
 pub fn serve_one<L: Link + Drop>(alloc: Global, site: &Site, link: L) -> Result<(L, End), L>

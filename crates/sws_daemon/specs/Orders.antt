@@ -3,7 +3,7 @@ use Rattle.std.specs.Prelude.{ℕ, min, max, Bool, true, false, nat_eq, if◌the
 use Rattle.std.specs.Net.Socket.{socket_port}
 use Rattle.mely_history.specs.declared.shape.Shape.{Shape}
 use Rattle.sws_lane.specs.declared.lane.Terms.{Terms}
-use Rattle.sws_daemon.specs.declared.order.Order.{Order}
+use Rattle.swsd_words.specs.declared.order.Order.{Order}
 
 -- a number as near to this one as the ends let it be
 abbrev pub between : ℕ → ℕ → ℕ → ℕ

@@ -5,7 +5,6 @@ ghost use Rattle.sws_daemon.specs.Causes.{status_by};
 
 use crate::cause::{Cause, cause_of};
 use crate::saying::{GenerationLine, Voice};
-use crate::shelf::Shelf;
 use std::alloc::AllocError;
 use std::rt::Clock;
 use std::sync::atomic::{AtomicBool, AtomicU64, Ordering};
@@ -16,6 +15,7 @@ use sws_engine::Verdict;
 use sws_lane::{Keeper, Told};
 use sws_link::Opened;
 use sws_net::{Entrance, LaneWorld};
+use sws_shelf::Shelf;
 use sws_site::Site;
 
 /// After how many generations in a row that failed a lane is counted as one that can't serve.

@@ -1,14 +1,13 @@
 //! The program, from its words to its status.
-use crate::order::{Order, WordsFault, read_order};
-use crate::outbox::Outbox;
 use crate::serving::{Served, serve_folder};
-use crate::writing::write_out;
 use std::env;
 use std::io::ErrorKind;
 use std::process::ExitCode;
 use std::rt::Clock;
 use std::sync::Wait;
 use std::thread::{self, Threads};
+use sws_outbox::{Outbox, write_out};
+use swsd_words::{Order, WordsFault, read_order};
 
 /// Runs the program on the machine, with threads of the second handle, which is the same runtime:
 /// only where a program begins does it have threads to give. What is said of a fault goes to
@@ -93,7 +92,11 @@ fn refuse(rt: &HostRuntime, fault: &WordsFault) -> u8 {
             let _ = eprint!(rt; "{fault}");
             7
         }
-        WordsFault::Listen(_) => {
+        WordsFault::Listen(_)
+        | WordsFault::HeaderParts(_)
+        | WordsFault::Header(_, _)
+        | WordsFault::TypeParts(_)
+        | WordsFault::Type(_, _) => {
             let _ = eprint!(rt; "{fault}");
             2
         }

@@ -1,9 +1,6 @@
 //! What the program says.
 
 use crate::cause::Cause;
-use crate::notes::Notes;
-use crate::outbox::Outbox;
-use crate::shelf::LoadFault;
 use log::kv::Source;
 use log::span::Spans;
 use log::{LevelFilter, Line, Log, Logged, Metadata, Record, info, warn};
@@ -13,6 +10,8 @@ use std::sync::Wait;
 use sws_lane::Totals;
 use sws_link::{Put, SureSink};
 use sws_log::{LogLine, write_log};
+use sws_outbox::Outbox;
+use sws_shelf::{LoadFault, Notes};
 
 /// Says lines, which are left in the outbox.
 #[derive(Drop)]

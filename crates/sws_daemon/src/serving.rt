@@ -5,11 +5,7 @@ ghost use Rattle.sws_daemon.specs.Orders.{terms_by};
 ghost use Rattle.sws_daemon.specs.Sums.{sum_of};
 
 use crate::keeper::{Common, LaneKeeper};
-use crate::notes::Notes;
-use crate::order::Order;
-use crate::outbox::Outbox;
 use crate::saying::Voice;
-use crate::shelf::{LoadFault, Shelf};
 use crate::watching::{Curfew, Watch};
 use mely_history::Shape;
 use std::alloc::AllocError;
@@ -18,8 +14,12 @@ use std::rt::Clock;
 use std::sync::Wait;
 use std::thread::{self, Threads};
 use std::{fmt, io};
+use sws_files::ReloadFile;
 use sws_lane::{Lane, Terms, Totals, keep_serving};
-use sws_net::{Door, Entrance, LaneWorld, ReloadFile, StopFile, listen};
+use sws_net::{Door, Entrance, LaneWorld, StopFile, listen};
+use sws_outbox::Outbox;
+use sws_shelf::{LoadFault, Notes, Origin, Shelf};
+use swsd_words::Order;
 
 /// Why a folder can't be served.
 #[derive(Debug, Drop)]
@@ -171,7 +171,14 @@ impl House {
         // Whoever asks from now on sees what the folder has then.
         let reload = order.reload_file.map(|path| ReloadFile::new(rt, path));
         let mut notes = Notes::new(rt.alloc());
-        let shelf = Shelf::new(rt, order.folder, order.hidden, &mut notes);
+        let origin = Origin {
+            path: order.folder,
+            hidden: order.hidden,
+            answers: order.answers,
+            input: order.input,
+            added: order.added,
+        };
+        let shelf = Shelf::new(rt, origin, &mut notes);
         voice.warn_of_notes(&notes);
         let shelf = shelf?;
         let lanes = usize::from(order.lanes);

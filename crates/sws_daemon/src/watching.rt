@@ -1,15 +1,15 @@
 //! Who looks whether the folder has changed.
 
 use crate::keeper::Common;
-use crate::notes::Notes;
 use crate::rounds::Rounds;
 use crate::saying::Voice;
-use crate::shelf::{LoadFault, Shelf};
 use std::mem;
 use std::rt::Clock;
 use std::sync::{Condvar, Mutex, Wait};
 use std::time::Duration;
-use sws_net::{Door, FileMark, ReloadFile, StopFile, is_asking};
+use sws_files::{FileMark, ReloadFile, is_asking};
+use sws_net::{Door, StopFile};
+use sws_shelf::{LoadFault, Notes, Shelf};
 
 /// In how many milliseconds it is looked again for the stop file and the reload file.
 const TICK: u64 = 250;

@@ -83,7 +83,7 @@ gopher = record {
   answers = answers;
   answers_to = answers_to;
   responses_of = gopher_responses_of;
-  input_limit = input_limit;
-  answer_limit = 1;
+  input_limit = λ place. input_limit;
+  answer_limit = λ place. 1;
   text_limit = text_limit;
 }

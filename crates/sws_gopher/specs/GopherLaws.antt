@@ -142,8 +142,8 @@ gopher-orderly = record {
   all = λ place bytes. refl;
   texts = texts;
   nothing = nothing;
-  some_input = lit< tt;
-  some_answers = lit< tt;
-  few_input = lit< tt;
-  few_written = lit< tt;
+  some_input = λ place. lit< tt;
+  some_answers = λ place. lit< tt;
+  few_input = λ place. lit< tt;
+  few_written = λ place. lit< tt;
 }

@@ -62,7 +62,7 @@ impl<'h> Speech for Gopher<'h> {
         MAX_INPUT as u64
     }
 
-    fn answer_limit(&self) -> u8 {
+    fn answer_limit(&self) -> u16 {
         1
     }
 

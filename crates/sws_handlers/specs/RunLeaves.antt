@@ -1,5 +1,5 @@
 -- What a run leaves of its states, of what is still under way, and how it is judged.
-use Rattle.std.specs.Prelude.{◌≡◌, ◌≤◌, ◌<◌, ◌^◌, ◌↔◌, ◌⊎◌, ◌||◌, not, ℕ, Bool, true, false, if◌then◌else◌, List, [], ◌∷◌, length, flat_map, slice_get, Option, Some, None, is_some, is_none, IsSome, IfSome}
+use Rattle.std.specs.Prelude.{◌≡◌, ◌≤◌, ◌<◌, ◌↔◌, ◌⊎◌, ◌||◌, not, ℕ, Bool, true, false, if◌then◌else◌, List, [], ◌∷◌, length, flat_map, slice_get, Option, Some, None, is_some, is_none, IsSome, IfSome}
 use Rattle.sws_log.specs.declared.line.LogLine.{LogLine}
 use Rattle.sws_link.specs.declared.Link.{Ghosts as LinkWords}
 use Rattle.sws_link.specs.declared.world.World.{Ghosts as WorldWords}
@@ -7,7 +7,6 @@ use Rattle.sws_steps.specs.declared.End.{End}
 use Rattle.sws_steps.specs.declared.End.TheVariants as ending
 use Rattle.sws_steps.specs.declared.Next.TheVariants as next
 use Rattle.sws_steps.specs.declared.talk.Talk.{Ghosts as TalkWords}
-use Rattle.sws_conn.specs.Responses.{input_limit}
 use Rattle.sws_conn.specs.Talks.{reported_end}
 use Rattle.sws_handlers.specs.declared.ended.Served.{Served}
 use Rattle.sws_handlers.specs.declared.ended.Verdict.{Verdict}
@@ -79,9 +78,9 @@ pub record ShowsSeat {T L G H : Type 0} (y : TalkWords T L G H) (seat : Seat T)
   pub end : s.end ≡ reported_end (y.view_of seat.talk)
   pub closed : IsSome s.end ↔ ((y.view_of seat.talk).pending ≡ next.Nothing)
   pub read : s.read ≡ (y.view_of seat.talk).read
-  pub few_read : s.read ≤ input_limit
+  pub few_read : s.read ≤ y.input_limit (y.hall_of seat.talk)
   pub written : s.written ≡ (y.view_of seat.talk).written
-  pub few_written : s.written < 2 ^ 40
+  pub few_written : s.written ≤ y.output_limit (y.hall_of seat.talk)
   pub answered : s.answered ≡ seat.answered
   pub stray : s.stray ≡ seat.stray
 

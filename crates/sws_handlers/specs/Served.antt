@@ -41,6 +41,8 @@ module _ {W L T G H : Type 0} (x : WorldWords W L) (l : LinkWords L) (y : TalkWo
 
   -- the connection was served so far; unless an event was stray, its trail is the steps it ran
   pub record SeatServes : Type 0 where
+    -- it answers out of the hall of the place
+    pub hall_is : y.hall_of seat.talk ≡ place.hall
     pub served : ServedBy (y.link_of seat.talk)
     -- its lines were counted
     pub answered : seat.answered ≡ (y.view_of seat.talk).lines

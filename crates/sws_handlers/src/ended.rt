@@ -39,7 +39,7 @@ pub struct Served<L> {
     /// How it ended, where it did.
     pub end: Option<End>,
 
-    /// How many bytes were taken, 65,536 at most.
+    /// How many bytes were taken, as many at most as count of a connection.
     pub read: u64,
 
     /// How many bytes were written.

@@ -11,7 +11,7 @@ use Rattle.sws_link.specs.declared.world.World.{Ghosts as WorldWords}
 use Rattle.sws_site.specs.Site.{SiteState}
 use Rattle.sws_steps.specs.declared.talk.Talk.{Ghosts as TalkWords}
 use Rattle.sws_handlers.specs.declared.ended.Ended.{Ended}
-use Rattle.sws_lane.specs.Generations.{Generation, IsRun, IsRunBy, IsRunOfBursts, IsRunOfSteps, RunsBy, AreGenerations, AreTotals, LeavesBy, world_by}
+use Rattle.sws_lane.specs.Generations.{Generation, IsRun, IsRunBy, IsRunOf, RunsBy, AreGenerations, AreTotals, LeavesBy, world_by}
 use Rattle.sws_lane.specs.Keepers.{KeeperCall, Report, IsCalled}
 use Rattle.sws_lane.specs.Keepers as call
 use Rattle.sws_lane.specs.Keeping.{Keeps, KeepsServing, ServesNext, ServesNone, calls_in, last_call}
@@ -45,13 +45,13 @@ module _ {W L T U G : Type 0} (x : WorldWords W L) (l : LinkWords L) (y : TalkWo
   -- ---- one
 
   -- a run with the log, and one without
-  pub run_of_steps : (site : SiteState) (first : W) (ended : Ended W L) → terms.log ≡ true → IsRunOfSteps x l y z terms site first ended
+  pub run_logged : (site : SiteState) (first : W) (ended : Ended W L) → terms.log ≡ true → IsRunOf x l y terms true site first ended
       → IsRun x l y z terms site first ended
-  run_of_steps site first ended log run = subst (λ kept. IsRunBy x l y z terms kept site first ended) (sym log) run
+  run_logged site first ended log run = subst (λ kept. IsRunBy x l y z terms kept site first ended) (sym log) run
 
-  pub run_of_bursts : (site : SiteState) (first : W) (ended : Ended W L) → terms.log ≡ false → IsRunOfBursts x l y z terms site first ended
+  pub run_unlogged : (site : SiteState) (first : W) (ended : Ended W L) → terms.log ≡ false → IsRunOf x l z terms false site first ended
       → IsRun x l y z terms site first ended
-  run_of_bursts site first ended log run = subst (λ kept. IsRunBy x l y z terms kept site first ended) (sym log) run
+  run_unlogged site first ended log run = subst (λ kept. IsRunBy x l y z terms kept site first ended) (sym log) run
 
   pub leaves_unopened : (site : SiteState) (world first : W) (answer : Opened) (last : Option W) (report : Report)
       → Listens x.tells x.faults x.waits world terms.port terms.connections answer first → RunsBy x l y z terms answer site first None

@@ -1,3 +1,4 @@
 pub mod GenerationLemmas
+pub mod OpeningLemmas
 pub mod TotalLemmas
 pub mod TurnLemmas

@@ -12,7 +12,6 @@ use Rattle.sws_site.specs.Site.{SiteState}
 use Rattle.sws_steps.specs.declared.End.TheVariants as ending
 use Rattle.sws_steps.specs.declared.talk.Talk.{Ghosts as TalkWords}
 use Rattle.sws_weave.specs.Modelled.{IsModelled}
-use Rattle.sws_weave.specs.Scripted.{IsScheduled}
 use Rattle.sws_weave.specs.ServerLeaves.{ServerLeaves}
 use Rattle.sws_handlers.specs.declared.ended.Ended.{Ended}
 use Rattle.sws_handlers.specs.declared.ended.Served.{Served}
@@ -88,23 +87,22 @@ pub record IsToldOf {W L : Type 0} (one : Generation W L) : Type 0 where
 
 -- ---- one generation
 
+-- what is promised of a run by talks of this kind, with the log or without
+pub record IsRunOf {W L T G : Type 0} (x : WorldWords W L) (l : LinkWords L)
+    (t : TalkWords T L G SiteState) (terms : Terms) (log : Bool) (site : SiteState) (first : W)
+    (ended : Ended W L) : Type 0 where
+  pub leaves : ServerLeaves x l t terms.shape site first log ended
+  pub modelled : terms.shape.cores ≡ 1
+      → IsModelled x l t site terms.shape first log [] ended
+
+-- here and below y is the talk by which a lane with the log serves, whose events end with their
+-- first line, and z the one without
 module _ {W L T U G : Type 0} (x : WorldWords W L) (l : LinkWords L)
     (y : TalkWords T L G SiteState) (z : TalkWords U L G SiteState) (terms : Terms) where
-  -- what is promised of a run with the log, of which each event is a step of a connection
-  pub record IsRunOfSteps (site : SiteState) (first : W) (ended : Ended W L) : Type 0 where
-    pub leaves : ServerLeaves x l y terms.shape site first true ended
-    pub scheduled : terms.shape.cores ≡ 1 → IsScheduled x site terms.shape first true [] ended
-
-  -- what is promised of a run without, of which each event is a burst of steps
-  pub record IsRunOfBursts (site : SiteState) (first : W) (ended : Ended W L) : Type 0 where
-    pub leaves : ServerLeaves x l z terms.shape site first false ended
-    pub modelled : terms.shape.cores ≡ 1
-        → IsModelled x l z site terms.shape first false [] ended
-
   -- what is promised of every run of the server, over this world and out of this site
   abbrev pub IsRunBy : Bool → SiteState → W → Ended W L → Type 0
-  IsRunBy true site first ended = IsRunOfSteps site first ended
-  IsRunBy false site first ended = IsRunOfBursts site first ended
+  IsRunBy true site first ended = IsRunOf x l y terms true site first ended
+  IsRunBy false site first ended = IsRunOf x l z terms false site first ended
 
   abbrev pub IsRun : SiteState → W → Ended W L → Type 0
   IsRun site first ended = IsRunBy terms.log site first ended

@@ -13,9 +13,9 @@ use mely_worker::OpenGate;
 use std::alloc::Global;
 use std::sync::Wait;
 use std::thread::Threads;
-use sws_burst::Bursts;
+use sws_burst::{Bursts, LoggedBursts};
 use sws_conn::{Conn, Talk};
-use sws_engine::{Ended, serve_all, talk_all};
+use sws_engine::{Ended, talk_all};
 use sws_link::{Opened, World};
 use sws_site::Site;
 
@@ -67,8 +67,8 @@ fn unopened<W: World + Drop>(alloc: Global, world: W, opened: Opened) -> (Option
 
 /// Serves the connections of a world that is open out of the site. It need not return.
 ///
-/// With the log each event is a step of a connection, which gives a line at most. Without it each
-/// is a burst of steps, so that a request costs one event and not seven.
+/// Each event of a connection is a burst of its steps. With the log a burst ends with its first
+/// line, as an event gives one at most.
 fn run_opened<R: Threads + Wait + Sync, W: World + Drop + Send>(
     rt: &R,
     alloc: Global,
@@ -79,11 +79,21 @@ fn run_opened<R: Threads + Wait + Sync, W: World + Drop + Send>(
 where
     W::Link: Send,
     requires { IsShapedFor W.World terms.now.shape world terms.now.log }
-    ensures { IsRun W.World W.Link.Link ⟦<Conn<'static, W::Link> as Talk<W::Link>>⟧
+    ensures { IsRun W.World W.Link.Link
+        ⟦<LoggedBursts<Conn<'static, W::Link>, W::Link> as Talk<W::Link>>⟧
         ⟦<Bursts<Conn<'static, W::Link>> as Talk<W::Link>>⟧ terms.now site.now world result }
 {
     if terms.log {
-        serve_all(rt, alloc, site, &terms.shape, world, &OpenGate, true, false)
+        talk_all::<R, W, LoggedBursts<Conn<'_, W::Link>, W::Link>, OpenGate>(
+            rt,
+            alloc,
+            site,
+            &terms.shape,
+            world,
+            &OpenGate,
+            true,
+            false,
+        )
     } else {
         talk_all::<R, W, Bursts<Conn<'_, W::Link>>, OpenGate>(
             rt,
@@ -109,7 +119,8 @@ pub fn serve_generation<R: Threads + Wait + Sync, W: World + Drop + Send>(
 where
     W::Link: Send,
     requires { AreTerms terms.now }
-    ensures { LeavesBy W.World W.Link.Link ⟦<Conn<'static, W::Link> as Talk<W::Link>>⟧
+    ensures { LeavesBy W.World W.Link.Link
+        ⟦<LoggedBursts<Conn<'static, W::Link>, W::Link> as Talk<W::Link>>⟧
         ⟦<Bursts<Conn<'static, W::Link>> as Talk<W::Link>>⟧ terms.now site.now world result.0
         (report_of result.1) }
 {

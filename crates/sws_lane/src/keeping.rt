@@ -12,7 +12,7 @@ use crate::lane::{Lane, Terms};
 use std::alloc::Global;
 use std::sync::Wait;
 use std::thread::Threads;
-use sws_burst::Bursts;
+use sws_burst::{Bursts, LoggedBursts};
 use sws_conn::{Conn, Talk};
 use sws_link::{Link, World};
 
@@ -28,11 +28,11 @@ trait Leads<S> {
 
 impl<W: World, K: Keeper> Leads<Lane<W, K>> for Lane<W, K> {
     ghost leads = { λ terms lane lane_now. KeepsServing W.World W.Link.Link
-        ⟦<Conn<'static, W::Link> as Talk<W::Link>>⟧
+        ⟦<LoggedBursts<Conn<'static, W::Link>, W::Link> as Talk<W::Link>>⟧
         ⟦<Bursts<Conn<'static, W::Link>> as Talk<W::Link>>⟧ K.Keeper terms lane lane_now [] };
 
     ghost ends = { λ terms lane lane_now. KeepsServing W.World W.Link.Link
-        ⟦<Conn<'static, W::Link> as Talk<W::Link>>⟧
+        ⟦<LoggedBursts<Conn<'static, W::Link>, W::Link> as Talk<W::Link>>⟧
         ⟦<Bursts<Conn<'static, W::Link>> as Talk<W::Link>>⟧ K.Keeper terms lane lane_now
         (last_call lane_now.world) };
 }
@@ -49,10 +49,10 @@ where
     W::Link: Send,
     requires { AreTerms terms.now }
     ensures next { OnTrue result (ServesNext W.World W.Link.Link
-        ⟦<Conn<'static, W::Link> as Talk<W::Link>>⟧
+        ⟦<LoggedBursts<Conn<'static, W::Link>, W::Link> as Talk<W::Link>>⟧
         ⟦<Bursts<Conn<'static, W::Link>> as Talk<W::Link>>⟧ K.Keeper terms.now lane.old lane.new) }
     ensures none { OnFalse result (ServesNone W.World W.Link.Link
-        ⟦<Conn<'static, W::Link> as Talk<W::Link>>⟧
+        ⟦<LoggedBursts<Conn<'static, W::Link>, W::Link> as Talk<W::Link>>⟧
         ⟦<Bursts<Conn<'static, W::Link>> as Talk<W::Link>>⟧ K.Keeper terms.now lane.old lane.new) }
 {
     lane.totals.are_kept();
@@ -82,10 +82,10 @@ where
     requires range { AreTerms terms.now }
     requires begins { M.leads terms.now lane.old lane.old }
     requires onward { (a b c : _) → M.leads terms.now a b → ServesNext W.World W.Link.Link
-        ⟦<Conn<'static, W::Link> as Talk<W::Link>>⟧
+        ⟦<LoggedBursts<Conn<'static, W::Link>, W::Link> as Talk<W::Link>>⟧
         ⟦<Bursts<Conn<'static, W::Link>> as Talk<W::Link>>⟧ K.Keeper terms.now b c → M.leads terms.now a c }
     requires stops { (a b c : _) → M.leads terms.now a b → ServesNone W.World W.Link.Link
-        ⟦<Conn<'static, W::Link> as Talk<W::Link>>⟧
+        ⟦<LoggedBursts<Conn<'static, W::Link>, W::Link> as Talk<W::Link>>⟧
         ⟦<Bursts<Conn<'static, W::Link>> as Talk<W::Link>>⟧ K.Keeper terms.now b c → M.ends terms.now a c }
     ensures { M.ends terms.now lane.old lane.new }
 {
@@ -108,7 +108,7 @@ fn responses_begin<L: Link, T: Talk<L>>()
 /// It need not return.
 ///
 /// There is a list of generations, and each opened the world that the one before left; what
-/// [`serve_all`](sws_engine::serve_all) promises holds of each that was opened, out of the keeper's
+/// [`talk_all`](sws_engine::talk_all) promises holds of each that was opened, out of the keeper's
 /// site, and the totals are their sums. The keeper is asked before each, and told after it what has
 /// come of it; where the world is still there, it has refused the one after the last. Over a world that tells its links, the k-th connection over
 /// all generations is the k-th to come. What it was sent begins the responses to its input out of
@@ -122,11 +122,12 @@ pub fn keep_serving<R: Threads + Wait + Sync, W: World + Drop + Send, K: Keeper>
 where
     W::Link: Send,
     requires { AreTerms terms.now }
-    ensures { Keeps W.World W.Link.Link ⟦<Conn<'static, W::Link> as Talk<W::Link>>⟧
+    ensures { Keeps W.World W.Link.Link
+        ⟦<LoggedBursts<Conn<'static, W::Link>, W::Link> as Talk<W::Link>>⟧
         ⟦<Bursts<Conn<'static, W::Link>> as Talk<W::Link>>⟧ K.Keeper
         terms.now lane.old lane.new }
 {
     lane.totals.are_kept();
-    responses_begin::<W::Link, Conn<'_, W::Link>>();
+    responses_begin::<W::Link, LoggedBursts<Conn<'_, W::Link>, W::Link>>();
     serve_all_generations::<R, W, K, Lane<W, K>>(rt, alloc, terms, lane);
 }

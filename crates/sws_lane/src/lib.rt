@@ -1,7 +1,7 @@
 //! A server that goes on: one generation of connections after another, over one world.
 //!
 //! A *lane* has a world and what has come of its generations so far. A *generation* is one run of
-//! [`serve_all`](sws_engine::serve_all), of so many connections at most. A [`Keeper`] says whether
+//! [`talk_all`](sws_engine::talk_all), of so many connections at most. A [`Keeper`] says whether
 //! there is to be a further one and over which site, and hears how each has ended.
 //!
 //! [`keep_serving`] makes one generation after another: each opens the world that the one before
@@ -24,9 +24,11 @@ mod generation;
 mod keeper;
 mod keeping;
 mod lane;
+mod laws;
 mod totals;
 
 pub use keeper::{Keeper, Told};
 pub use keeping::keep_serving;
 pub use lane::{Lane, Terms};
+pub use laws::logged_bursts_open_once;
 pub use totals::Totals;

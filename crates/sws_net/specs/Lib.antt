@@ -1,8 +1,6 @@
-pub mod Hidden
 pub mod Initial
 pub mod Invariant
 pub mod Listening
 pub mod MemSocket
 pub mod MemSocketViews
 pub mod Sockets
-pub mod Streams

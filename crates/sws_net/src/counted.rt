@@ -3,10 +3,10 @@ ghost use Rattle.std.specs.Prelude.{None, false, IfOk, IfSome, Contains};
 ghost use Rattle.sws_link.specs.Counts.{kept_count};
 ghost use Rattle.sws_net.specs.Initial.{IsInitialIfCame};
 
-use crate::errors::is_want_of_memory;
 use crate::server::Came;
 use crate::tcp_link::TcpLink;
 use std::io;
+use sws_files::is_want_of_memory;
 use sws_link::{Accepted, Opened, Polled, World};
 
 /// Where a world has its connections from.

@@ -26,11 +26,6 @@ const ENOBUFS: i32 = 105;
 
 const EHOSTDOWN: i32 = 112;
 
-/// Whether an allocation of this program was refused; every other error is one of the machine.
-pub fn is_want_of_memory(error: &io::Error) -> bool {
-    error.kind() == ErrorKind::OutOfMemory && error.raw_os_error().is_none()
-}
-
 /// Whether a call on a socket is to be tried again once the socket is ready.
 pub fn is_not_yet(error: &io::Error) -> bool {
     matches!(error.kind(), ErrorKind::WouldBlock | ErrorKind::Interrupted)

@@ -6,7 +6,7 @@ use itoa::Buffer;
 use std::marker::Model;
 
 /// The most bytes that a head of its own has.
-pub const MAX_OWN_HEAD: usize = 320;
+pub const MAX_OWN_HEAD: usize = 1360;
 
 /// A head of at most [`MAX_OWN_HEAD`] bytes, which lies in the value itself.
 ///

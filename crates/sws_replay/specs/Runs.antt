@@ -1,5 +1,5 @@
 -- What a run of scripted connections leaves, where it ends well.
-use Rattle.std.specs.Prelude.{◌≡◌, ◌≢◌, ◌≤◌, ◌<◌, ◌^◌, ◌++◌, ℕ, Bool, List, Some, length, map, slice_get}
+use Rattle.std.specs.Prelude.{◌≡◌, ◌≢◌, ◌≤◌, ◌++◌, ℕ, Bool, List, Some, length, map, slice_get}
 use Rattle.std.specs.List.{AllByRecursion}
 use Rattle.mely_history.specs.declared.entry.Entry.{Entry}
 use Rattle.mely_history.specs.declared.shape.Shape.{Shape}
@@ -12,7 +12,6 @@ use Rattle.sws_link.specs.LinkItems.{all_bytes}
 use Rattle.sws_link.specs.MemLink.{MemLinkState}
 use Rattle.sws_link.specs.MemLinks.{bytes_tell}
 use Rattle.sws_link.specs.MemWorld.{MemWorldState}
-use Rattle.sws_steps.specs.Protocol.{most_input}
 use Rattle.sws_steps.specs.Talks.{Consumes}
 use Rattle.sws_script.specs.Scripted.{script_of}
 use Rattle.sws_script.specs.declared.input.ScriptConn.{ScriptConn}
@@ -35,9 +34,9 @@ pub record IsServedAlone (expected : Expected) (conn : ScriptConn)
   -- the counts are those of what was written and taken, and what was taken and is left
   -- is all that its lines give
   pub written : s.written ≡ length link.bytes.written
-  pub few_written : s.written < 2 ^ 40
+  pub few_written : s.written ≤ expected.output_limit
   pub read : s.read ≡ length link.bytes.input.taken
-  pub few_read : s.read ≤ most_input
+  pub few_read : s.read ≤ expected.input_limit
   pub input : link.bytes.input.taken ++ all_bytes link.bytes.input.items
       ≡ all_bytes (script_of conn).items
 

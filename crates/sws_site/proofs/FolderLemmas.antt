@@ -1,14 +1,14 @@
 -- Redirects to folders.
-use Rattle.std.proofs.Common.{◌≡◌, ⊎_elim, ℕ, ◌<◌, ◌≤◌, Bool, true, false, List, [], ◌∷◌, ◌++◌, length, take, drop, refl, sym, ap, ◌∙◌, Option, None, Some, append_assoc, length-append, lit≤, arith, ◌-◌, ◌+◌, ◌*◌}
+use Rattle.std.proofs.Common.{◌≡◌, ⊎_elim, ℕ, ◌<◌, ◌≤◌, Bool, true, false, List, [], ◌∷◌, ◌++◌, length, take, drop, refl, ap, ◌∙◌, None, append_assoc, length-append, lit≤, arith, ◌-◌, ◌+◌, ◌*◌}
 use Rattle.std.proofs.lemmas.List.{length-take}
-use Rattle.std.specs.Prelude.{codes, not, ◌||◌, ◌&&◌, if◌then◌else◌}
-use Rattle.std.specs.Char.{is_ascii_alphanumeric, is_ascii}
+use Rattle.std.specs.Prelude.{codes, not, if◌then◌else◌}
 use Rattle.std.specs.List.{flat_map}
 use Rattle.std.proofs.lemmas.Bool.{agree_below_at, cases_lt}
 use Rattle.std.proofs.lemmas.Bool.Decides.{nat_tests}
-use Rattle.percent_encoding.specs.AsciiSet.{contains, should_percent_encode}
+use Rattle.percent_encoding.specs.AsciiSet.{should_percent_encode}
 use Rattle.percent_encoding.specs.Percent.{percent_encode, percent_encode_byte, encode_byte}
 use Rattle.sws_site.specs.declared.folders.TheConstants.{ESCAPED}
+use Rattle.sws_site.specs.declared.options.SiteOptions.{SiteOptions}
 use Rattle.sws_site.specs.declared.statuses.Status.TheVariants.{MovedPermanently}
 use Rattle.sws_site.specs.declared.statuses.Body.TheVariants.{StatusText}
 use Rattle.sws_site.specs.ResponseHeads.{ResponseHead, head_text, status_line, server_line, lines_text, line_end, connection_lines, content_lines}
@@ -70,39 +70,41 @@ folder_path-short index =
 -- ---- the head of a redirect
 
 -- without its location
-abbrev pub unplaced : Bool → ResponseHead
-unplaced closes = record {
+abbrev pub unplaced : SiteOptions → Bool → ResponseHead
+unplaced options closes = record {
   status = MovedPermanently;
   location = None;
   closes = closes;
   date = None;
+  max_age = options.added.max_age;
   range = None;
   media_type = plain_text;
   len = 22;
+  headers = options.added.headers;
 }
 
-pub unplaced-long : (closes : Bool) → 45 ≤ length (head_text (unplaced closes))
-unplaced-long closes =
+pub unplaced-long : (options : SiteOptions) (closes : Bool) → 45 ≤ length (head_text (unplaced options closes))
+unplaced-long options closes =
     let status : length (status_line MovedPermanently ++ line_end) ≡ 32 = refl in
     let server : length (server_line ++ line_end) ≡ 13 = refl in
-    omega (arith, length-head_text (unplaced closes), status, server)
+    omega (arith, length-head_text (unplaced options closes), status, server)
 
 -- the lines behind the location
 abbrev later : Bool → List ℕ
 later closes = lines_text (connection_lines closes ++ content_lines StatusText plain_text 22)
 
-regroup : (a b c : List ℕ) → a ++ (b ++ c) ≡ (a ++ b) ++ c
-regroup a b c = simp append_assoc
+regroup : (a b c d : List ℕ) → a ++ ((b ++ c) ++ d) ≡ ((a ++ b) ++ c) ++ d
+regroup a b c d = simp append_assoc
 
-pub redirect_head-is : (closes : Bool) (path lines head : List ℕ) → lines ≡ head_text (unplaced closes)
+pub redirect_head-is : (options : SiteOptions) (closes : Bool) (path lines head : List ℕ) → lines ≡ head_text (unplaced options closes)
     → head ≡ (((take 45 lines ++ codes "Location: ") ++ path) ++ line_end) ++ drop 45 lines
-    → head ≡ redirect_head path closes
+    → head ≡ redirect_head options path closes
 unfolding redirect_head head_text fixed_body
-redirect_head-is true path lines head is_lines is_head =
+redirect_head-is options true path lines head is_lines is_head =
     is_head
     ∙ ap (λ (x : List ℕ). (((take 45 x ++ codes "Location: ") ++ path) ++ line_end) ++ drop 45 x) is_lines
-    ∙ ap (λ (x : List ℕ). (take 45 (head_text (unplaced true)) ++ codes "Location: ") ++ x) (regroup (path ++ line_end) (later true) line_end)
-redirect_head-is false path lines head is_lines is_head =
+    ∙ ap (λ (x : List ℕ). (take 45 (head_text (unplaced options true)) ++ codes "Location: ") ++ x) (regroup (path ++ line_end) (later true) options.added.headers line_end)
+redirect_head-is options false path lines head is_lines is_head =
     is_head
     ∙ ap (λ (x : List ℕ). (((take 45 x ++ codes "Location: ") ++ path) ++ line_end) ++ drop 45 x) is_lines
-    ∙ ap (λ (x : List ℕ). (take 45 (head_text (unplaced false)) ++ codes "Location: ") ++ x) (regroup (path ++ line_end) (later false) line_end)
+    ∙ ap (λ (x : List ℕ). (take 45 (head_text (unplaced options false)) ++ codes "Location: ") ++ x) (regroup (path ++ line_end) (later false) options.added.headers line_end)

@@ -1,6 +1,7 @@
 -- How long a head is at most.
 use Rattle.std.specs.Prelude.{◌≡◌, ℕ, ◌+◌, ◌-◌, ◌^◌, ◌<◌, ◌≤◌, ◌&&◌, nat_le, Bool, true, false, if◌then◌else◌, List, [], ◌∷◌, ◌++◌, length, get_or, codes, decimal, Option, Some, None, ⊤}
 use Rattle.std.specs.List.{list_all}
+use Rattle.std.specs.Option.{ForSome}
 use Rattle.std.specs.Str.{str_eq_ignore_ascii_case}
 use Rattle.std.proofs.Common.{zero, suc, refl, ap, ◌∙◌, arith, length-append, lit≤, lit<, leb-true}
 use Rattle.std.proofs.lemmas.List.Concat.{flat_map-append}
@@ -14,8 +15,8 @@ use Rattle.sws_site.specs.declared.heads.ContentRange.{ContentRange}
 use Rattle.sws_site.specs.declared.heads.ContentRange.TheVariants.{Selected, NoSuch}
 use Rattle.sws_site.specs.Statuses.{row_of}
 use Rattle.sws_site.specs.declared.options.SiteOptions.{SiteOptions}
-use Rattle.sws_site.specs.ContentTypes.{media_types, text_types, data_types, image_types, audio_types, video_types, archive_types, document_types, program_types, type_in, type_or, more_type_or, extension_of, content_type, media_type_of}
-use Rattle.sws_site.specs.ResponseHeads.{ResponseHead, status_line, server_line, location_lines, connection_lines, date_lines, last_modified_lines, allow_lines, content_range_lines, range_lines, media_type_and_len_lines, content_lines, head_lines, line_end, lines_text, head_text}
+use Rattle.sws_site.specs.ContentTypes.{media_types, text_types, data_types, image_types, audio_types, video_types, archive_types, document_types, program_types, type_in, type_or, more_type_or, extension_of, content_type, known_type_of, media_type_of}
+use Rattle.sws_site.specs.ResponseHeads.{ResponseHead, status_line, server_line, location_lines, connection_lines, date_lines, last_modified_lines, max_age_lines, cache_lines, allow_lines, content_range_lines, range_lines, media_type_and_len_lines, content_lines, head_lines, line_end, lines_text, head_text}
 
 -- ---- words out of lists
 
@@ -49,7 +50,7 @@ unfolding content_type media_types
 content_type-short name = type_in-short media_types (extension_of name) refl
 
 -- nor is it where the site knows more types
-type_or-short : (rows : List (List ℕ × List ℕ)) (otherwise extension : List ℕ) → list_all (λ row. nat_le (length row.1) 80) rows ≡ true → length otherwise ≤ 80
+pub type_or-short : (rows : List (List ℕ × List ℕ)) (otherwise extension : List ℕ) → list_all (λ row. nat_le (length row.1) 80) rows ≡ true → length otherwise ≤ 80
     → length (type_or rows otherwise extension) ≤ 80
 type_or-short [] otherwise extension short few = few
 type_or-short (row ∷ rows) otherwise extension short few =
@@ -99,12 +100,13 @@ unfolding more_type_or
 more_type-short otherwise extension few =
     text_type-short _ extension (data_type-short _ extension (image_type-short _ extension (audio_type-short _ extension (video_type-short _ extension (archive_type-short _ extension (document_type-short _ extension (program_type-short _ extension (few))))))))
 
+known_type-short : (knows_more : Bool) (name : List ℕ) → length (known_type_of knows_more name) ≤ 80
+known_type-short true name = more_type-short (content_type name) (extension_of name) (content_type-short name)
+known_type-short false name = content_type-short name
+
 pub media_type_of-short : (options : SiteOptions) (name : List ℕ) → length (media_type_of options name) ≤ 80
-media_type_of-short options name = by_test options.knows_more_types
-  where
-    by_test : (t : Bool) → length (if t then more_type_or (content_type name) (extension_of name) else content_type name) ≤ 80
-    by_test true = more_type-short (content_type name) (extension_of name) (content_type-short name)
-    by_test false = content_type-short name
+media_type_of-short options name =
+    type_or-short options.added.types (known_type_of options.knows_more_types name) (extension_of name) options.added.short_types (known_type-short options.knows_more_types name)
 
 day_name-short : (day : ℕ) → length (day_name day) ≤ 3
 day_name-short day =
@@ -161,38 +163,48 @@ media_type_and_len-short : (media_type : List ℕ) (len : ℕ) → length media_
 media_type_and_len-short media_type len short few =
     let digits = length-decimal-le 20 len (lit< tt) (omega arith) few in simp length-append (omega (arith, digits))
 
--- a head is as long as its groups of lines together
+-- the seconds have at most 32 bits
+max_age-short : (max_age : Option ℕ) → ForSome max_age (λ seconds. seconds < 2 ^ 32) → length (lines_text (max_age_lines max_age)) ≤ 35
+max_age-short None short = lit≤ tt
+max_age-short (Some seconds) short =
+    let digits = digits-short seconds (short seconds refl) in simp length-append (omega (arith, digits))
+
+-- a head is as long as its groups of lines together, and the lines that the site adds
 pub length-head_text : (head : ResponseHead)
     → length (head_text head)
     ≡ length (status_line head.status ++ line_end) + length (server_line ++ line_end) + length (lines_text (location_lines head.location))
     + length (lines_text (connection_lines head.closes))
     + length (lines_text (last_modified_lines (row_of head.status).is_dated head.date)) + length (lines_text (allow_lines (row_of head.status).lists_methods))
     + length (lines_text (range_lines (row_of head.status).has_range head.range)) + length (lines_text (content_lines (row_of head.status).body head.media_type head.len))
-    + 2
+    + length (lines_text (cache_lines (row_of head.status).is_dated head.max_age)) + length head.headers + 2
 unfolding head_text
 length-head_text head =
     let l = location_lines head.location in
     let a = connection_lines head.closes in
     let b = last_modified_lines (row_of head.status).is_dated head.date in
+    let k = cache_lines (row_of head.status).is_dated head.max_age in
     let c = allow_lines (row_of head.status).lists_methods in
     let d = range_lines (row_of head.status).has_range head.range in
     let e = content_lines (row_of head.status).body head.media_type head.len in
     omega (
       arith,
-      length-append (lines_text (head_lines head)) line_end,
-      length-append (status_line head.status ++ line_end) ((server_line ++ line_end) ++ lines_text (l ++ a ++ b ++ c ++ d ++ e)),
-      length-append (server_line ++ line_end) (lines_text (l ++ a ++ b ++ c ++ d ++ e)),
-      lines-append (l ++ a ++ b ++ c ++ d) e,
-      lines-append (l ++ a ++ b ++ c) d,
-      lines-append (l ++ a ++ b) c,
+      length-append (lines_text (head_lines head) ++ head.headers) line_end,
+      length-append (lines_text (head_lines head)) head.headers,
+      length-append (status_line head.status ++ line_end) ((server_line ++ line_end) ++ lines_text (l ++ a ++ b ++ k ++ c ++ d ++ e)),
+      length-append (server_line ++ line_end) (lines_text (l ++ a ++ b ++ k ++ c ++ d ++ e)),
+      lines-append (l ++ a ++ b ++ k ++ c ++ d) e,
+      lines-append (l ++ a ++ b ++ k ++ c) d,
+      lines-append (l ++ a ++ b ++ k) c,
+      lines-append (l ++ a ++ b) k,
       lines-append (l ++ a) b,
       lines-append l a,
     )
 
 -- whatever it says, a head is short, but for the line of a location
 pub head_text-short : (head : ResponseHead) → length head.media_type ≤ 80 → head.len < 2 ^ 64 → IsShortRange head.range
-    → length (head_text head) ≤ 320 + length (lines_text (location_lines head.location))
-head_text-short head media_type few range = by_status head.status
+    → ForSome head.max_age (λ seconds. seconds < 2 ^ 32) → length head.headers ≤ 1024
+    → length (head_text head) ≤ 1360 + length (lines_text (location_lines head.location))
+head_text-short head media_type few range age headers = by_status head.status
   where
     connection : length (lines_text (connection_lines head.closes)) ≤ 19
     connection = connection-short head.closes
@@ -200,40 +212,43 @@ head_text-short head media_type few range = by_status head.status
     dates : length (lines_text (date_lines head.date)) ≤ 46
     dates = dates-short head.date
 
+    kept : length (lines_text (max_age_lines head.max_age)) ≤ 35
+    kept = max_age-short head.max_age age
+
     about : length (lines_text (content_range_lines head.range)) ≤ 55
     about = range-short head.range range
 
     content : length (lines_text (media_type_and_len_lines head.media_type head.len)) ≤ 134
     content = media_type_and_len-short head.media_type head.len media_type few
 
-    by_status : (status : Status) → length (head_text (record head { status = status })) ≤ 320 + length (lines_text (location_lines head.location))
+    by_status : (status : Status) → length (head_text (record head { status = status })) ≤ 1360 + length (lines_text (location_lines head.location))
     by_status Success =
         let line : length (status_line Success ++ line_end) ≤ 17 = lit≤ tt in
-        omega (arith, length-head_text (record head { status = Success }), line, connection, dates, about, content)
+        omega (arith, length-head_text (record head { status = Success }), line, connection, dates, kept, about, content, headers)
     by_status PartialContent =
         let line : length (status_line PartialContent ++ line_end) ≤ 30 = lit≤ tt in
-        omega (arith, length-head_text (record head { status = PartialContent }), line, connection, dates, about, content)
+        omega (arith, length-head_text (record head { status = PartialContent }), line, connection, dates, kept, about, content, headers)
     by_status MovedPermanently =
         let line : length (status_line MovedPermanently ++ line_end) ≤ 32 = lit≤ tt in
-        omega (arith, length-head_text (record head { status = MovedPermanently }), line, connection, dates, about, content)
+        omega (arith, length-head_text (record head { status = MovedPermanently }), line, connection, dates, kept, about, content, headers)
     by_status NotModified =
         let line : length (status_line NotModified ++ line_end) ≤ 27 = lit≤ tt in
-        omega (arith, length-head_text (record head { status = NotModified }), line, connection, dates, about, content)
+        omega (arith, length-head_text (record head { status = NotModified }), line, connection, dates, kept, about, content, headers)
     by_status BadRequest =
         let line : length (status_line BadRequest ++ line_end) ≤ 26 = lit≤ tt in
-        omega (arith, length-head_text (record head { status = BadRequest }), line, connection, dates, about, content)
+        omega (arith, length-head_text (record head { status = BadRequest }), line, connection, dates, kept, about, content, headers)
     by_status NotFound =
         let line : length (status_line NotFound ++ line_end) ≤ 24 = lit≤ tt in
-        omega (arith, length-head_text (record head { status = NotFound }), line, connection, dates, about, content)
+        omega (arith, length-head_text (record head { status = NotFound }), line, connection, dates, kept, about, content, headers)
     by_status MethodNotAllowed =
         let line : length (status_line MethodNotAllowed ++ line_end) ≤ 33 = lit≤ tt in
-        omega (arith, length-head_text (record head { status = MethodNotAllowed }), line, connection, dates, about, content)
+        omega (arith, length-head_text (record head { status = MethodNotAllowed }), line, connection, dates, kept, about, content, headers)
     by_status RangeNotSatisfiable =
         let line : length (status_line RangeNotSatisfiable ++ line_end) ≤ 36 = lit≤ tt in
-        omega (arith, length-head_text (record head { status = RangeNotSatisfiable }), line, connection, dates, about, content)
+        omega (arith, length-head_text (record head { status = RangeNotSatisfiable }), line, connection, dates, kept, about, content, headers)
     by_status HeaderFieldsTooLarge =
         let line : length (status_line HeaderFieldsTooLarge ++ line_end) ≤ 46 = lit≤ tt in
-        omega (arith, length-head_text (record head { status = HeaderFieldsTooLarge }), line, connection, dates, about, content)
+        omega (arith, length-head_text (record head { status = HeaderFieldsTooLarge }), line, connection, dates, kept, about, content, headers)
     by_status NotImplemented =
         let line : length (status_line NotImplemented ++ line_end) ≤ 30 = lit≤ tt in
-        omega (arith, length-head_text (record head { status = NotImplemented }), line, connection, dates, about, content)
+        omega (arith, length-head_text (record head { status = NotImplemented }), line, connection, dates, kept, about, content, headers)

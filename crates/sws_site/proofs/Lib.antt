@@ -2,6 +2,7 @@ pub mod LimitLemmas
 pub mod FileLemmas
 pub mod HeadLengthsLemmas
 mod ContentTypeLemmas
+mod HeaderLemmas
 mod HeadLemmas
 pub mod FolderLemmas
 mod PlaceLemmas

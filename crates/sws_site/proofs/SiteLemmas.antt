@@ -16,29 +16,29 @@ use Rattle.sws_site.specs.Site.{SiteState}
 use Rattle.sws_site.specs.Stored.{HasHeads, file_of}
 
 -- either head
-built_head-text : (status : Status) (date : Option HttpDate) (media_type : List ℕ) (response : BuiltResponse) (closes : Bool) → IsBuilt status date media_type response
-    → built_head response closes ≡ head_text (record { status = status; location = None; closes = closes; date = date; range = None; media_type = media_type; len = length response.body.items })
-built_head-text status date media_type response true built = built.closing_head
-built_head-text status date media_type response false built = built.open_head
+built_head-text : (options : SiteOptions) (status : Status) (date : Option HttpDate) (media_type : List ℕ) (response : BuiltResponse) (closes : Bool) → IsBuilt options status date media_type response
+    → built_head response closes ≡ head_text (record { status = status; location = None; closes = closes; date = date; max_age = options.added.max_age; range = None; media_type = media_type; len = length response.body.items; headers = options.added.headers })
+built_head-text options status date media_type response true built = built.closing_head
+built_head-text options status date media_type response false built = built.open_head
 
 pub built_head-file : (options : SiteOptions) (date : Option HttpDate) (stored : StoredFile) (closes : Bool) → HasHeads options date stored
     → built_head stored.response closes ≡ file_head options date (file_of stored) closes
 unfolding file_head
-built_head-file options date stored closes has = built_head-text Success date _ stored.response closes has.response
+built_head-file options date stored closes has = built_head-text options Success date _ stored.response closes has.response
 
-pub built_head-not_modified : (date : Option HttpDate) (response : BuiltResponse) (closes : Bool) → IsBuilt NotModified date [] response
-    → response.body.items ≡ [] → built_head response closes ≡ not_modified_head date closes
+pub built_head-not_modified : (options : SiteOptions) (date : Option HttpDate) (response : BuiltResponse) (closes : Bool) → IsBuilt options NotModified date [] response
+    → response.body.items ≡ [] → built_head response closes ≡ not_modified_head options date closes
 unfolding not_modified_head
-built_head-not_modified date response closes built none =
-    built_head-text NotModified date [] response closes built
-    ∙ ap (λ (body : List ℕ). head_text (record { status = NotModified; location = None; closes = closes; date = date; range = None; media_type = []; len = length body })) none
+built_head-not_modified options date response closes built none =
+    built_head-text options NotModified date [] response closes built
+    ∙ ap (λ (body : List ℕ). head_text (record { status = NotModified; location = None; closes = closes; date = date; max_age = options.added.max_age; range = None; media_type = []; len = length body; headers = options.added.headers })) none
 
 pub built_head-refusal : (site : SiteState) (status : Status) (response : BuiltResponse) (closes : Bool)
     → IsRefusal site.options (not_found_page site.options site.files) status response → built_head response closes ≡ refusal_head site status closes
 unfolding refusal_head
 built_head-refusal site status response closes refusal =
-    built_head-text status None (told_type site.options (status_page site status)) response closes refusal.heads
-    ∙ ap (λ (body : List ℕ). head_text (record { status = status; location = None; closes = closes; date = None; range = None; media_type = told_type site.options (status_page site status); len = length body })) refusal.body
+    built_head-text site.options status None (told_type site.options (status_page site status)) response closes refusal.heads
+    ∙ ap (λ (body : List ℕ). head_text (record { status = status; location = None; closes = closes; date = None; max_age = site.options.added.max_age; range = None; media_type = told_type site.options (status_page site status); len = length body; headers = site.options.added.headers })) refusal.body
 
 pub refusal_body-text : (site : SiteState) (status : Status) (response : BuiltResponse)
     → IsRefusal site.options (not_found_page site.options site.files) status response → response.body.items ≡ refusal_body site status

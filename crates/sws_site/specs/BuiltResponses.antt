@@ -2,21 +2,24 @@
 use Rattle.std.specs.Prelude.{◌≡◌, ℕ, Bool, true, false, List, length, Option, None, if◌then◌else◌}
 use Rattle.httpdate.specs.declared.date.HttpDate.{HttpDate}
 use Rattle.sws_site.specs.declared.statuses.Status.{Status}
+use Rattle.sws_site.specs.declared.options.SiteOptions.{SiteOptions}
 use Rattle.sws_site.specs.declared.built_responses.BuiltResponse.{BuiltResponse}
 use Rattle.sws_site.specs.ResponseHeads.{head_text}
 
--- the two heads are those of such a response with this body
-pub record IsBuilt (status : Status) (date : Option HttpDate) (media_type : List ℕ)
-    (response : BuiltResponse) : Type 0 where
+-- the two heads are those of such a response with this body, of a site with these options
+pub record IsBuilt (options : SiteOptions) (status : Status) (date : Option HttpDate)
+    (media_type : List ℕ) (response : BuiltResponse) : Type 0 where
   pub open_head : response.open_head.items
       ≡ head_text (record {
         status = status;
         location = None;
         closes = false;
         date = date;
+        max_age = options.added.max_age;
         range = None;
         media_type = media_type;
         len = length response.body.items;
+        headers = options.added.headers;
       })
   pub closing_head : response.closing_head.items
       ≡ head_text (record {
@@ -24,9 +27,11 @@ pub record IsBuilt (status : Status) (date : Option HttpDate) (media_type : List
         location = None;
         closes = true;
         date = date;
+        max_age = options.added.max_age;
         range = None;
         media_type = media_type;
         len = length response.body.items;
+        headers = options.added.headers;
       })
 
 -- the head that ends the connection, or the other one

@@ -23,20 +23,24 @@ file_head options date file closes =
       location = None;
       closes = closes;
       date = date;
+      max_age = options.added.max_age;
       range = None;
       media_type = media_type_of options file.0;
       len = length file.1;
+      headers = options.added.headers;
     })
 
--- the head of the response that a file was not modified since
-unfoldable pub not_modified_head : Option HttpDate → Bool → List ℕ
-not_modified_head date closes =
+-- the head of the response that a file of such a site was not modified since
+unfoldable pub not_modified_head : SiteOptions → Option HttpDate → Bool → List ℕ
+not_modified_head options date closes =
     head_text (record {
       status = NotModified;
       location = None;
       closes = closes;
       date = date;
+      max_age = options.added.max_age;
       range = None;
       media_type = [];
       len = 0;
+      headers = options.added.headers;
     })

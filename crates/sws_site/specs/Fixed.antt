@@ -71,9 +71,11 @@ refusal_head site status closes =
       location = None;
       closes = closes;
       date = None;
+      max_age = site.options.added.max_age;
       range = None;
       media_type = told_type site.options (status_page site status);
       len = length (told_body (status_page site status) status);
+      headers = site.options.added.headers;
     })
 
 -- the content tells the status

@@ -1,5 +1,5 @@
 -- The folders of a site, and the responses that redirect to them (RFC 9110, section 15.4.2).
-use Rattle.std.specs.Prelude.{◌≡◌, ℕ, ◌-◌, ◌==◌, ◌&&◌, ◌||◌, Bool, true, false, not, nat_eq, if◌then◌else◌, List, [], ◌∷◌, ◌++◌, length, take, codes, Option, Some, None}
+use Rattle.std.specs.Prelude.{ℕ, ◌-◌, ◌==◌, ◌&&◌, ◌||◌, Bool, not, nat_eq, if◌then◌else◌, List, [], ◌∷◌, ◌++◌, length, take, codes, Option, Some, None}
 use Rattle.std.specs.Char.{is_ascii_alphanumeric}
 use Rattle.std.specs.List.{flat_map, starts_with, ends_with}
 use Rattle.percent_encoding.specs.Percent.{percent_encode_byte}
@@ -32,7 +32,8 @@ folder_index site name =
 -- a byte that stands in a path as it is: an unreserved one (RFC 3986, section 2.3), or the slash
 unfoldable pub stays_in_path : ℕ → Bool
 stays_in_path byte =
-    is_ascii_alphanumeric byte || byte == 45 || byte == 46 || byte == 47 || byte == 95 || byte == 126
+    is_ascii_alphanumeric byte || byte == 45 || byte == 46 || byte == 47 || byte == 95
+    || byte == 126
 
 -- the bytes with all others escaped (RFC 3986, section 2.1)
 unfoldable pub escaped_path : List ℕ → List ℕ
@@ -43,22 +44,27 @@ escaped_path bytes =
 unfoldable pub folder_path : List ℕ → List ℕ
 folder_path index = 47 ∷ escaped_path (take (length index - 10) index)
 
--- the head of the response that redirects to this path
-unfoldable pub redirect_head : List ℕ → Bool → List ℕ
-redirect_head path closes =
+-- the head of the response that redirects to this path, of a site with these options
+unfoldable pub redirect_head : SiteOptions → List ℕ → Bool → List ℕ
+redirect_head options path closes =
     head_text (record {
       status = MovedPermanently;
       location = Some path;
       closes = closes;
       date = None;
+      max_age = options.added.max_age;
       range = None;
       media_type = plain_text;
       len = length (fixed_body MovedPermanently);
+      headers = options.added.headers;
     })
 
 -- head and body of the response that redirects to the folder of this index, where the site does
 abbrev pub redirect_of : PageState → Bool → Option (List ℕ × List ℕ)
 redirect_of page closes =
     if redirects_to page.options page.file.0
-    then Some (redirect_head (folder_path page.file.0) closes, fixed_body MovedPermanently)
+    then Some (
+      redirect_head page.options (folder_path page.file.0) closes,
+      fixed_body MovedPermanently,
+    )
     else None

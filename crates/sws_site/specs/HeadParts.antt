@@ -11,7 +11,9 @@ head_of parts =
       location = None;
       closes = parts.closes;
       date = parts.date.now;
+      max_age = parts.options.now.added.max_age;
       range = parts.range;
       media_type = parts.media_type.now;
       len = parts.len;
+      headers = parts.options.now.added.headers;
     }

@@ -1,4 +1,6 @@
 pub mod Statuses
+pub mod HeaderFields
+pub mod OwnTypes
 pub mod ContentTypes
 pub mod ResponseHeads
 pub mod Fixed

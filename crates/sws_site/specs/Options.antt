@@ -1,12 +1,34 @@
--- What a site does beyond sending its files.
-use Rattle.std.specs.Prelude.{false}
+-- What a site does beyond sending its files, and how much of a connection it serves.
+use Rattle.std.specs.Prelude.{◌^◌, ◌<◌, false, [], None}
+use Rattle.std.specs.Option.{ForSome}
+use Rattle.std.proofs.Common.{refl, lit≤}
 use Rattle.sws_site.specs.declared.options.SiteOptions.{SiteOptions}
+use Rattle.sws_site.specs.declared.additions.Additions.{Additions}
 
--- nothing
+-- no age is too long
+pub no_age : ForSome None (λ seconds. seconds < 2 ^ 32)
+no_age seconds given = absurd (cc)
+
+-- its owner adds no line and no media type
+abbrev pub nothing_added : Additions
+nothing_added = record {
+  headers = [];
+  types = [];
+  max_age = None;
+  short_headers = lit≤ tt;
+  short_types = refl;
+  short_age = no_age;
+}
+
+-- nothing, and of a connection 64 requests are answered and 65,536 bytes count
 abbrev pub plain_options : SiteOptions
 plain_options = record {
   removes_dot_segments = false;
   knows_more_types = false;
   sends_not_found_page = false;
   redirects_to_folders = false;
+  refuses_ambiguous = false;
+  answers = 64;
+  input = 65536;
+  added = nothing_added;
 }

@@ -12,17 +12,19 @@ use Rattle.sws_site.specs.declared.heads.ContentRange.TheVariants.{Selected, NoS
 use Rattle.sws_site.specs.Statuses.{row_of, status_text}
 
 -- what a head says: the status, where what is asked for is to be found, if that is elsewhere, whether
--- the connection ends with this response, when the site was last modified, which part of a file the
--- response is about, and the media type and the length of the content that it has, or would have for
--- GET
+-- the connection ends with this response, when the site was last modified, for how many seconds a
+-- file may be kept, which part of a file the response is about, the media type and the length of the
+-- content that it has, or would have for GET, and the lines that the site adds, with their ends
 pub record ResponseHead : Type 0 where
   pub status : Status
   pub location : Option (List ℕ)
   pub closes : Bool
   pub date : Option HttpDate
+  pub max_age : Option ℕ
   pub range : Option ContentRange
   pub media_type : List ℕ
   pub len : ℕ
+  pub headers : List ℕ
 
 -- RFC 9112, section 4
 abbrev pub status_line : Status → List ℕ
@@ -50,6 +52,15 @@ date_lines (Some date) = (codes "Last-Modified: " ++ date_text date) ∷ []
 -- a response of such a status has the date, if that is known
 abbrev pub last_modified_lines : Bool → Option HttpDate → List (List ℕ)
 last_modified_lines is_dated date = if is_dated then date_lines date else []
+
+-- for how many seconds the response may be kept (RFC 9111, section 5.2.2.1)
+abbrev pub max_age_lines : Option ℕ → List (List ℕ)
+max_age_lines None = []
+max_age_lines (Some seconds) = (codes "Cache-Control: max-age=" ++ decimal seconds) ∷ []
+
+-- a response of a status that has the date says so, where the site does
+abbrev pub cache_lines : Bool → Option ℕ → List (List ℕ)
+cache_lines is_dated max_age = if is_dated then max_age_lines max_age else []
 
 -- the methods that a file has (RFC 9110, sections 10.2.1 and 15.5.6)
 abbrev pub allow_lines : Bool → List (List ℕ)
@@ -92,6 +103,7 @@ head_lines head =
     ∷ (location_lines head.location
     ++ connection_lines head.closes
     ++ last_modified_lines row.is_dated head.date
+    ++ cache_lines row.is_dated head.max_age
     ++ allow_lines row.lists_methods
     ++ range_lines row.has_range head.range
     ++ content_lines row.body head.media_type head.len)
@@ -104,6 +116,6 @@ line_end = 13 ∷ 10 ∷ []
 abbrev pub lines_text : List (List ℕ) → List ℕ
 lines_text lines = flat_map (λ line. line ++ line_end) lines
 
--- the lines, and the empty line that ends the head
+-- the lines, those that the site adds to every head, and the empty line that ends the head
 unfoldable pub head_text : ResponseHead → List ℕ
-head_text head = lines_text (head_lines head) ++ line_end
+head_text head = (lines_text (head_lines head) ++ head.headers) ++ line_end

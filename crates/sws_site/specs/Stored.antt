@@ -29,9 +29,11 @@ files_of stored = map file_of stored
 -- its heads are those of a site with these options and of this date, and so is its redirect
 pub record HasHeads (options : SiteOptions) (date : Option HttpDate) (stored : StoredFile)
     : Type 0 where
-  pub response : IsBuilt Success date (media_type_of options stored.name.items) stored.response
+  pub response
+      : IsBuilt options Success date (media_type_of options stored.name.items) stored.response
   pub redirect
-      : HasRedirect (redirects_to options stored.name.items) (folder_path stored.name.items) stored.redirect
+      : HasRedirect options (redirects_to options stored.name.items) (folder_path stored.name.items)
+      stored.redirect
 
 -- the heads of all files are
 abbrev pub AllHaveHeads : SiteOptions → Option HttpDate → List StoredFile → Type 0

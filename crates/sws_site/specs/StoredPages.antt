@@ -12,12 +12,12 @@ abbrev pub state_of : Inside → PageState
 state_of page = record {
   file = file_of page.file.now;
   date = page.date;
-  options = page.options;
+  options = page.options.now;
 }
 
 -- the heads that a page lends were built for its file and its date
 pub record IsOfSite (page : Inside) : Type 0 where
-  pub heads : HasHeads page.options page.date page.file.now
-  pub not_modified : IsBuilt NotModified page.date [] page.not_modified.now
+  pub heads : HasHeads page.options.now page.date page.file.now
+  pub not_modified : IsBuilt page.options.now NotModified page.date [] page.not_modified.now
   pub no_content : page.not_modified.now.body.items ≡ []
   pub short : length page.file.now.response.body.items ≤ size_limit

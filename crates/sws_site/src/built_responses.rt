@@ -3,6 +3,7 @@ ghost use Rattle.std.specs.Prelude.{◌≡◌, ◌≤◌, IfOk, length};
 ghost use Rattle.sws_site.specs.BuiltResponses.{IsBuilt, built_head};
 
 use crate::heads::{HeadParts, MAX_MEDIA_TYPE, write_head};
+use crate::options::SiteOptions;
 use crate::statuses::Status;
 use httpdate::HttpDate;
 use std::alloc::{AllocError, Global};
@@ -16,19 +17,22 @@ pub(crate) struct BuiltResponse {
 }
 
 impl BuiltResponse {
-    /// The response of this status with a body of this media type, of a site of this date.
+    /// The response of this status with a body of this media type, of a site with these options and
+    /// of this date.
     pub(crate) fn new(
         alloc: Global,
+        options: &SiteOptions,
         status: Status,
         date: &Option<HttpDate>,
         media_type: &[u8],
         body: Vec<u8>,
     ) -> Result<BuiltResponse, AllocError>
         requires { length media_type.now ≤ MAX_MEDIA_TYPE }
-        ensures built { IfOk result (IsBuilt status date.now media_type.now) }
+        ensures built { IfOk result (IsBuilt options.now status date.now media_type.now) }
         ensures body { IfOk result (λ response. response.body.items ≡ body.items) }
     {
         let open = HeadParts {
+            options,
             status,
             closes: false,
             date,

@@ -29,8 +29,8 @@ const FIRST_LINES: usize = 45;
 const MOVED: &[u8] = b"301 Moved Permanently\n";
 
 /// Whether a site with these options redirects to the folder of the index of this name.
-fn redirects_to(options: SiteOptions, index: &[u8]) -> bool
-    ensures redirects { result ≡ redirects_to options index.now }
+fn redirects_to(options: &SiteOptions, index: &[u8]) -> bool
+    ensures redirects { result ≡ redirects_to options.now index.now }
     ensures long { result ≡ true → 11 ≤ length index.now }
 {
     options.redirects_to_folders && index.ends_with(b"/index.html") && !index.starts_with(b"/")
@@ -47,11 +47,18 @@ fn folder_path(alloc: Global, index: &[u8]) -> Result<String, AllocError>
     Ok(path)
 }
 
-/// The head of the response that redirects to this path, whose length isn't limited.
-fn redirect_head(alloc: Global, path: &[u8], closes: bool) -> Result<Vec<u8>, AllocError>
-    ensures { IfOk result (λ head. head.items ≡ redirect_head path.now closes) }
+/// The head of the response that redirects to this path, whose length isn't limited, of a site with
+/// these options.
+fn redirect_head(
+    alloc: Global,
+    options: &SiteOptions,
+    path: &[u8],
+    closes: bool,
+) -> Result<Vec<u8>, AllocError>
+    ensures { IfOk result (λ head. head.items ≡ redirect_head options.now path.now closes) }
 {
     let own = write_head(&HeadParts {
+        options,
         status: Status::MovedPermanently,
         closes,
         date: &None,
@@ -74,18 +81,19 @@ fn redirect_head(alloc: Global, path: &[u8], closes: bool) -> Result<Vec<u8>, Al
 /// options does so.
 pub(crate) fn redirect(
     alloc: Global,
-    options: SiteOptions,
+    options: &SiteOptions,
     index: &[u8],
 ) -> Result<Option<BuiltResponse>, AllocError>
-    ensures { IfOk result (HasRedirect (redirects_to options index.now) (folder_path index.now)) }
+    ensures { IfOk result (HasRedirect options.now (redirects_to options.now index.now)
+        (folder_path index.now)) }
 {
     if !redirects_to(options, index) {
         return Ok(None);
     }
     let path = folder_path(alloc, index)?;
     let body = Vec::from_slice(alloc, MOVED)?;
-    let open_head = redirect_head(alloc, path.as_bytes(), false)?;
-    let closing_head = redirect_head(alloc, path.as_bytes(), true)?;
+    let open_head = redirect_head(alloc, options, path.as_bytes(), false)?;
+    let closing_head = redirect_head(alloc, options, path.as_bytes(), true)?;
     Ok(Some(BuiltResponse {
         body,
         open_head,

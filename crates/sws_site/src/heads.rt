@@ -1,8 +1,9 @@
 //! Writing the head of a response, line by line.
 ghost use Rattle.std.specs.Prelude.{◌≡◌, ◌≤◌, ◌+◌, ◌++◌, Option, length};
-ghost use Rattle.sws_site.specs.ResponseHeads.{lines_text, line_end, connection_lines, last_modified_lines, allow_lines, range_text, range_lines, media_type_and_len_lines, content_lines, head_text};
+ghost use Rattle.sws_site.specs.ResponseHeads.{lines_text, line_end, connection_lines, last_modified_lines, cache_lines, allow_lines, range_text, range_lines, media_type_and_len_lines, content_lines, head_text};
 ghost use Rattle.sws_site.specs.HeadParts.{head_of};
 
+use crate::options::SiteOptions;
 use crate::statuses::{Body, Status};
 use httpdate::HttpDate;
 use sws_parts::{MAX_OWN_HEAD, OwnHead};
@@ -33,6 +34,8 @@ pub enum ContentRange {
 /// What a head says, beside what all heads say.
 #[derive(Clone, Copy)]
 pub struct HeadParts<'a> {
+    /// What the site does, of which come the lines that its owner adds.
+    pub options: &'a SiteOptions,
     /// The status, whose row says which of the lines below there are.
     pub status: Status,
     /// The connection ends with the response.
@@ -78,6 +81,23 @@ fn add_last_modified(head: &mut OwnHead, is_dated: bool, date: &Option<HttpDate>
     }
     if let Some(date) = date {
         add_line(head, b"Last-Modified: ", &date.to_bytes());
+    }
+}
+
+/// Says for how many seconds the response may be kept, where its status has the date and the site
+/// says so.
+fn add_cache(head: &mut OwnHead, is_dated: bool, max_age: &Option<u32>)
+    requires { length head.old + length (lines_text (cache_lines is_dated max_age.now))
+        ≤ MAX_OWN_HEAD }
+    ensures { head.new ≡ head.old ++ lines_text (cache_lines is_dated max_age.now) }
+{
+    if !is_dated {
+        return;
+    }
+    if let Some(seconds) = max_age {
+        head.put(b"Cache-Control: max-age=");
+        head.put_number(u64::from(*seconds));
+        head.put(b"\r\n");
     }
 }
 
@@ -167,9 +187,11 @@ pub fn write_head(parts: &HeadParts<'_>) -> OwnHead
     add_line(&mut head, b"Server: ", b"sws");
     add_connection(&mut head, parts.closes);
     add_last_modified(&mut head, row.is_dated, parts.date);
+    add_cache(&mut head, row.is_dated, &parts.options.added.max_age);
     add_allow(&mut head, row.lists_methods);
     add_range(&mut head, row.has_range, &parts.range);
     add_content(&mut head, row.body, parts.media_type, parts.len);
+    head.put(parts.options.added.headers.text());
     head.put(b"\r\n");
     head
 }

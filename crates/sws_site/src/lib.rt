@@ -8,7 +8,9 @@
 //! every body is lent. The head of a response about a part of a file has numbers of the request in
 //! it: [`write_head`] writes it into a room of its own, and takes no memory either.
 //!
-//! [`SiteOptions`] say what a site does beyond a plain one, which [`Site::load`] makes.
+//! [`SiteOptions`] say what a site does beyond a plain one, which [`Site::load`] makes. Among them
+//! are [`Additions`]: header lines that stand in every head, media types, and for how long responses
+//! may be kept.
 //!
 //! ```text
 //! let site = Site::load(alloc, &mut folder, Some(784111777))?;
@@ -22,26 +24,37 @@
 //! ```
 #![tactic(auto)]
 
+mod additions;
 mod built_responses;
 mod content_types;
 mod folders;
 mod head_kinds;
+mod header_faults;
+mod header_lines;
 mod heads;
 mod loading;
 mod more_types;
 mod options;
+mod own_types;
 mod pages;
 mod refusals;
 mod site_faults;
 mod sites;
 mod statuses;
 mod stored;
+mod tokens;
+mod type_faults;
 
+pub use additions::Additions;
 pub use content_types::content_type_of;
 pub use head_kinds::HeadKind;
+pub use header_faults::HeaderFault;
+pub use header_lines::HeaderLines;
 pub use heads::{ContentRange, HeadParts, MAX_MEDIA_TYPE, write_head};
 pub use options::SiteOptions;
+pub use own_types::OwnTypes;
 pub use pages::Page;
 pub use site_faults::SiteFault;
 pub use sites::Site;
 pub use statuses::{Body, Status, StatusRow};
+pub use type_faults::TypeFault;

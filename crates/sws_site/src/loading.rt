@@ -96,7 +96,7 @@ fn read_file<F: Folder>(
 fn next_file<F: Folder>(
     alloc: Global,
     folder: &mut F,
-    options: SiteOptions,
+    options: &SiteOptions,
     date: &Option<HttpDate>,
     number: u32,
     room: usize,
@@ -106,7 +106,7 @@ fn next_file<F: Folder>(
         StepsTo (F.tells folder.old) (F.tells folder.new) (option_map file_of file)) }
     ensures within { IfOk result (λ file.
         IfSome file (λ file. IsWithin number room (file_of file))) }
-    ensures heads { IfOk result (λ file. IfSome file (HasHeads options date.now)) }
+    ensures heads { IfOk result (λ file. IfSome file (HasHeads options.now date.now)) }
     ensures fails { IfErr result (StepFails number room (F.tells folder.old)) }
     ensures same { IsSameFolder (F.tells folder.old) (F.tells folder.new) }
     ensures cause { HasCause (F.faults folder.old) (F.faults folder.new) (result
@@ -134,13 +134,13 @@ fn next_file<F: Folder>(
 pub(crate) fn read_files<F: Folder>(
     alloc: Global,
     folder: &mut F,
-    options: SiteOptions,
+    options: &SiteOptions,
     date: &Option<HttpDate>,
 ) -> Result<Vec<StoredFile>, SiteFault>
     requires { IsInitialFolder (F.tells folder.old) }
     ensures loads { LoadsStored (F.tells folder.old) result }
     ensures limits { IfOk result (λ files. IsWithinLimits (files_of files.items)) }
-    ensures heads { IfOk result (λ files. AllHaveHeads options date.now files.items) }
+    ensures heads { IfOk result (λ files. AllHaveHeads options.now date.now files.items) }
     ensures same { IsSameFolder (F.tells folder.old) (F.tells folder.new) }
     ensures cause { HasCause (F.faults folder.old) (F.faults folder.new) (result
         ≡ Err SiteFault.Fault) }

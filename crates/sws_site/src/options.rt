@@ -1,11 +1,16 @@
-//! What a site does beyond sending its files.
-ghost use Rattle.std.specs.Prelude.{◌≡◌};
+//! What a site does beyond sending its files, and how much of a connection it serves.
+ghost use Rattle.std.specs.Prelude.{◌≡◌, IfOk};
 ghost use Rattle.sws_site.specs.Options.{plain_options};
 
-/// What a site does beyond sending the files that are asked for by their names.
+use crate::additions::Additions;
+use std::alloc::{AllocError, Global};
+
+/// What a site does beyond sending the files that are asked for by their names, and how much of a
+/// connection is served out of it.
 ///
-/// Each of these is left out of a plain site, which [`Site::load`](crate::Site::load) makes.
-#[derive(Clone, Copy, Debug, PartialEq, Eq)]
+/// A plain site, which [`Site::load`](crate::Site::load) makes, does none of these, and of each of
+/// its connections 65,536 bytes count and 64 requests are answered.
+#[derive(Drop)]
 pub struct SiteOptions {
     /// The dot segments of a path are removed before its file is looked for (RFC 3986, section
     /// 5.2.4).
@@ -18,11 +23,22 @@ pub struct SiteOptions {
     /// A path that names a folder with an index, and lacks the slash at its end, is answered by a
     /// redirect to the path with the slash (RFC 9110, section 15.4.2).
     pub redirects_to_folders: bool,
+    /// A request is refused that another server may read otherwise: its host has a byte that no host
+    /// has, or the length of its content is no number, or is given twice, or beside a coding
+    /// (RFC 9112, sections 3.2 and 6.3).
+    pub refuses_ambiguous: bool,
+    /// How many requests of a connection are answered, of which the last closes it: 1 to 65,535,
+    /// and 0 means 1.
+    pub answers: u16,
+    /// How many bytes of a connection count: 1 to 4,294,967,295, and 0 means 1.
+    pub input: u32,
+    /// What the owner of the site adds to its responses.
+    pub added: Additions,
 }
 
 impl SiteOptions {
-    /// The options of a plain site, which has none.
-    pub fn plain() -> SiteOptions
+    /// The options of a plain site.
+    pub fn plain(alloc: Global) -> SiteOptions
         ensures { result ≡ plain_options }
     {
         SiteOptions {
@@ -30,6 +46,26 @@ impl SiteOptions {
             knows_more_types: false,
             sends_not_found_page: false,
             redirects_to_folders: false,
+            refuses_ambiguous: false,
+            answers: 64,
+            input: 65536,
+            added: Additions::none(alloc),
         }
+    }
+
+    /// The same options once more.
+    pub fn copy(&self, alloc: Global) -> Result<SiteOptions, AllocError>
+        ensures { IfOk result (λ copied. copied ≡ self.now) }
+    {
+        Ok(SiteOptions {
+            removes_dot_segments: self.removes_dot_segments,
+            knows_more_types: self.knows_more_types,
+            sends_not_found_page: self.sends_not_found_page,
+            redirects_to_folders: self.redirects_to_folders,
+            refuses_ambiguous: self.refuses_ambiguous,
+            answers: self.answers,
+            input: self.input,
+            added: self.added.copy(alloc)?,
+        })
     }
 }

@@ -21,7 +21,7 @@ pub struct Page<'s> {
     pub(crate) file: &'s StoredFile,
     pub(crate) not_modified: &'s BuiltResponse,
     pub(crate) date: Option<HttpDate>,
-    pub(crate) options: SiteOptions,
+    pub(crate) options: &'s SiteOptions,
 }
 
 impl<'s> Model for Page<'s> {
@@ -46,7 +46,7 @@ impl<'s> Page<'s> {
     }
 
     /// The media type of the file, by its name.
-    pub fn media_type(&self) -> &'static [u8]
+    pub fn media_type(&self) -> &'s [u8]
         ensures media_type { result.now ≡ media_type_of self.now.options self.now.file.0 }
         ensures short { length result.now ≤ MAX_MEDIA_TYPE }
     {

@@ -45,31 +45,32 @@ fn page_for<'f>(page: Option<&'f StoredFile>, status: Status) -> Option<&'f Stor
 }
 
 /// The response of this status whose body is a line that tells it.
-fn line(alloc: Global, status: Status) -> Result<BuiltResponse, AllocError>
+fn line(alloc: Global, options: &SiteOptions, status: Status) -> Result<BuiltResponse, AllocError>
     ensures body { IfOk result (λ response. response.body.items ≡ fixed_body status) }
-    ensures heads { IfOk result (IsBuilt status None plain_text) }
+    ensures heads { IfOk result (IsBuilt options.now status None plain_text) }
 {
     let mut body = Vec::new(alloc);
     body.extend_from_slice(status.row().text)?;
     body.extend_from_slice(b"\n")?;
     body.shrink_to_fit();
-    let response = BuiltResponse::new(alloc, status, &None, b"text/plain", body)?;
+    let response = BuiltResponse::new(alloc, options, status, &None, b"text/plain", body)?;
     Ok(response)
 }
 
 /// The response of this status whose body is a copy of the page.
 fn copy(
     alloc: Global,
-    options: SiteOptions,
+    options: &SiteOptions,
     page: &StoredFile,
     status: Status,
 ) -> Result<BuiltResponse, AllocError>
     ensures body { IfOk result (λ response. response.body.items ≡ (file_of page.now).1) }
-    ensures heads { IfOk result (IsBuilt status None (media_type_of options (file_of page.now).0)) }
+    ensures heads { IfOk result (IsBuilt options.now status None
+        (media_type_of options.now (file_of page.now).0)) }
 {
     let media_type = media_type_of(options, &page.name);
     let body = Vec::from_slice(alloc, &page.response.body)?;
-    let response = BuiltResponse::new(alloc, status, &None, media_type, body)?;
+    let response = BuiltResponse::new(alloc, options, status, &None, media_type, body)?;
     Ok(response)
 }
 
@@ -77,16 +78,16 @@ fn copy(
 /// file has a name, its body is this page, if there is one.
 fn refusal(
     alloc: Global,
-    options: SiteOptions,
+    options: &SiteOptions,
     page: Option<&StoredFile>,
     status: Status,
 ) -> Result<BuiltResponse, AllocError>
     ensures { IfOk result
-        (IsRefusal options (option_map (λ file. file_of file.now) page.entry) status) }
+        (IsRefusal options.now (option_map (λ file. file_of file.now) page.entry) status) }
 {
     match page_for(page, status) {
         Some(page) => copy(alloc, options, page, status),
-        None => line(alloc, status),
+        None => line(alloc, options, status),
     }
 }
 
@@ -94,10 +95,11 @@ impl Refusals {
     /// The responses of a site with these options, and with this page for names that no file has.
     pub(crate) fn new(
         alloc: Global,
-        options: SiteOptions,
+        options: &SiteOptions,
         page: Option<&StoredFile>,
     ) -> Result<Refusals, AllocError>
-        ensures { IfOk result (AreRefusals options (option_map (λ file. file_of file.now) page.entry)) }
+        ensures { IfOk result
+            (AreRefusals options.now (option_map (λ file. file_of file.now) page.entry)) }
     {
         Ok(Refusals {
             bad_request: refusal(alloc, options, page, Status::BadRequest)?,

@@ -77,13 +77,13 @@ fn find_places(alloc: Global, files: &[StoredFile]) -> Result<BTreeMap<Vec<u8>, 
 
 /// The page of a site with these options for names that no file has, if it has one.
 fn not_found_page<'f>(
-    options: SiteOptions,
+    options: &SiteOptions,
     files: &'f [StoredFile],
     places: &BTreeMap<Vec<u8>, usize>,
 ) -> Option<&'f StoredFile>
     requires { FindsPlaces files.now places.now }
     ensures { option_map (λ file. file_of file.now) result
-        ≡ not_found_page options (files_of files.now) }
+        ≡ not_found_page options.now (files_of files.now) }
 {
     if !options.sends_not_found_page {
         return None;
@@ -120,7 +120,7 @@ impl Site {
         ensures cause { HasCause (F.faults folder.old) (F.faults folder.new) (result
             ≡ Err SiteFault.Fault) }
     {
-        Site::load_with(alloc, folder, date, SiteOptions::plain())
+        Site::load_with(alloc, folder, date, SiteOptions::plain(alloc))
     }
 
     /// [`Site::load`] of a site that does more than a plain one.
@@ -144,7 +144,7 @@ impl Site {
             ≡ Err SiteFault.Fault) }
     {
         let date = http_date(date);
-        let files = read_files(alloc, folder, options, &date)?;
+        let files = read_files(alloc, folder, &options, &date)?;
         let site = Site::new(alloc, date, options, files)?;
         Ok(site)
     }
@@ -165,12 +165,13 @@ impl Site {
         let places = find_places(alloc, &files)?;
         let not_modified = BuiltResponse::new(
             alloc,
+            &options,
             Status::NotModified,
             &date,
             b"",
             Vec::new(alloc),
         )?;
-        let refusals = Refusals::new(alloc, options, not_found_page(options, &files, &places))?;
+        let refusals = Refusals::new(alloc, &options, not_found_page(&options, &files, &places))?;
         Ok(Site {
             files,
             places,
@@ -191,7 +192,7 @@ impl Site {
                 file: &self.files[*place],
                 not_modified: &self.not_modified,
                 date: self.date,
-                options: self.options,
+                options: &self.options,
             }),
             None => None,
         }
@@ -255,7 +256,7 @@ impl Site {
             file: &self.files[i],
             not_modified: &self.not_modified,
             date: self.date,
-            options: self.options,
+            options: &self.options,
         }
     }
 
@@ -277,10 +278,10 @@ impl Site {
     }
 
     /// What the site does beyond sending its files.
-    pub fn options(&self) -> SiteOptions
-        ensures { result ≡ self.now.options }
+    pub fn options(&self) -> &SiteOptions
+        ensures { result.now ≡ self.now.options }
     {
-        self.options
+        &self.options
     }
 
     /// A law, which does nothing when it runs: every site is within the limits

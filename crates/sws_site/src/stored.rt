@@ -23,16 +23,23 @@ impl StoredFile {
     /// The file of this name and these contents, of a site with these options and of this date.
     pub(crate) fn new(
         alloc: Global,
-        options: SiteOptions,
+        options: &SiteOptions,
         date: &Option<HttpDate>,
         name: &[u8],
         contents: Vec<u8>,
     ) -> Result<StoredFile, AllocError>
-        ensures heads { IfOk result (HasHeads options date.now) }
+        ensures heads { IfOk result (HasHeads options.now date.now) }
         ensures file { IfOk result (λ stored. file_of stored ≡ (name.now, contents.items)) }
     {
         let media_type = media_type_of(options, name);
-        let response = BuiltResponse::new(alloc, Status::Success, date, media_type, contents)?;
+        let response = BuiltResponse::new(
+            alloc,
+            options,
+            Status::Success,
+            date,
+            media_type,
+            contents,
+        )?;
         let redirect = redirect(alloc, options, name)?;
         let name = Vec::from_slice(alloc, name)?;
         Ok(StoredFile {

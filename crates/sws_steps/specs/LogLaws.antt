@@ -55,19 +55,19 @@ module _ {Hall Answer : Type 0} (p : Protocol Hall Answer) (orderly : IsOrderly 
   log-begins hall conn front bytes (more, is) = by_logs p.logs
     where
       limited : List ℕ → List Answer
-      limited b = p.answers p.answer_limit hall b
+      limited b = p.answers (p.answer_limit hall) hall b
 
       counted : (later : List ℕ)
-          × (take p.input_limit (front ++ more) ≡ take p.input_limit front ++ later)
-      counted = take-append p.input_limit front more
+          × (take (p.input_limit hall) (front ++ more) ≡ take (p.input_limit hall) front ++ later)
+      counted = take-append (p.input_limit hall) front more
 
-      begins : Begins (limited (take p.input_limit front))
-          (limited (take p.input_limit front ++ counted.0))
-      begins = answers-begin p orderly p.answer_limit hall (take p.input_limit front) counted.0
+      begins : Begins (limited (take (p.input_limit hall) front))
+          (limited (take (p.input_limit hall) front ++ counted.0))
+      begins = answers-begin p orderly (p.answer_limit hall) hall (take (p.input_limit hall) front) counted.0
 
       answers : p.answers_to hall bytes ≡ p.answers_to hall front ++ begins.0
       answers =
-          orderly.all hall bytes ∙ ap (λ b. limited (take p.input_limit b)) is
+          orderly.all hall bytes ∙ ap (λ b. limited (take (p.input_limit hall) b)) is
           ∙ ap limited counted.1 ∙ begins.1
           ∙ ap (λ first. first ++ begins.0) (sym (orderly.all hall front))
 

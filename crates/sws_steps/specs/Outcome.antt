@@ -70,15 +70,15 @@ module _ {Hall Answer : Type 0} (p : Protocol Hall Answer) where
   outcome_by cut input given =
       cut_off cut (texts_of p given) (end_of (is_closed p given) input.stop)
 
-  -- the input of a script that the protocol lets count
-  abbrev pub scripted_input : Script → Input
-  scripted_input script = limit_input p.input_limit (input_from 0 script.items)
+  -- the input of a script, as far as the hall lets it count
+  abbrev pub scripted_input : Hall → Script → Input
+  scripted_input hall script = limit_input (p.input_limit hall) (input_from 0 script.items)
 
   -- the outcome of a scripted connection
   abbrev pub outcome_of : Hall → Script → Outcome
   outcome_of hall script =
-      outcome_by script.cut (scripted_input script)
-      (p.answers_to hall (scripted_input script).bytes)
+      outcome_by script.cut (scripted_input hall script)
+      (p.answers_to hall (scripted_input hall script).bytes)
 
 -- a fact, unless memory ran out
 abbrev pub UnlessMemory : Option End → Type 0 → Type 0

@@ -134,8 +134,8 @@ module _ {Hall Answer : Type 0} (p : Protocol Hall Answer) where
   -- a bound on the steps that are left
   abbrev pub steps_left : ConnCoreState Hall → ℕ
   steps_left c =
-      ((p.answer_limit - c.answered) * (p.text_limit + 1) + length (unsent_bytes c.parts)
-      + (p.input_limit - c.read) + input_left c.input_ended) * 160
+      ((p.answer_limit c.hall - c.answered) * (p.text_limit + 1) + length (unsent_bytes c.parts)
+      + (p.input_limit c.hall - c.read) + input_left c.input_ended) * 160
       + (wait_limit - c.waits) * 4 + rank_of c.pending
 
   -- the rest of the path

@@ -45,15 +45,19 @@ pub record Protocol (Hall Answer : Type 0) : Type 1 where
   pub answers : ℕ → Hall → List ℕ → List Answer
   pub answers_to : Hall → List ℕ → List Answer
   pub responses_of : Hall → List ℕ → List ℕ
-  -- so many bytes of a connection count, so many requests are answered, and
-  -- no answer has more bytes
-  pub input_limit : ℕ
-  pub answer_limit : ℕ
+  -- so many bytes of a connection count, and so many requests are answered, as its hall has it; and
+  -- no answer has more bytes than this
+  pub input_limit : Hall → ℕ
+  pub answer_limit : Hall → ℕ
   pub text_limit : ℕ
 
 -- so many bytes of a connection may count at most, whatever it talks by
 abbrev pub most_input : ℕ
-most_input = 65536
+most_input = 4294967295
+
+-- and all that is written of one has fewer bytes than this
+abbrev pub most_output : ℕ
+most_output = 2 ^ 50
 
 -- the answers after one, unless it closes
 abbrev pub later_unless : {Answer : Type 0} → Bool → List Answer → List Answer
@@ -71,6 +75,10 @@ module _ {Hall Answer : Type 0} (p : Protocol Hall Answer) where
   -- whether one of them closes, which is then the last
   abbrev pub is_closed : List Answer → Bool
   is_closed given = list_any p.closes given
+
+  -- so many bytes are written at most: no answer has more than its limit
+  abbrev pub output_limit : Hall → ℕ
+  output_limit hall = p.answer_limit hall * p.text_limit
 
   -- an answer, and those after it unless it closes
   abbrev pub answers_from : Answer → List Answer → List Answer
@@ -107,13 +115,14 @@ module _ {Hall Answer : Type 0} (p : Protocol Hall Answer) where
         → (p.note answer).length ≡ length (text_of answer)
     -- those to all bytes are those to the ones that count, and the responses are their texts
     pub all : (hall : Hall) (bytes : List ℕ)
-        → p.answers_to hall bytes ≡ p.answers p.answer_limit hall (take p.input_limit bytes)
+        → p.answers_to hall bytes
+        ≡ p.answers (p.answer_limit hall) hall (take (p.input_limit hall) bytes)
     pub texts : (hall : Hall) (bytes : List ℕ)
         → p.responses_of hall bytes ≡ texts_of (p.answers_to hall bytes)
     -- a connection begins without a request, and may have some bytes and an answer
     pub nothing : p.cut [] ≡ NotYet
-    pub some_input : 0 < p.input_limit
-    pub some_answers : 0 < p.answer_limit
+    pub some_input : (hall : Hall) → 0 < p.input_limit hall
+    pub some_answers : (hall : Hall) → 0 < p.answer_limit hall
     -- few bytes count, and few are written
-    pub few_input : p.input_limit ≤ most_input
-    pub few_written : p.answer_limit * p.text_limit < 2 ^ 40
+    pub few_input : (hall : Hall) → p.input_limit hall ≤ most_input
+    pub few_written : (hall : Hall) → output_limit hall < most_output

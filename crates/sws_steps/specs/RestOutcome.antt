@@ -37,14 +37,14 @@ module _ {Hall Answer : Type 0} (p : Protocol Hall Answer) where
   -- read, and no more than the connection may still take
   abbrev pub input_to_come : ConnCoreState Hall → Script → Input
   input_to_come c script =
-      limit_input (p.input_limit - c.read)
+      limit_input (p.input_limit c.hall - c.read)
       (input_by c.input_ended (waits_at c.pending c.waits) script)
 
   -- what comes of the rest of the parts, and of what will be answered of the
   -- buffer and the input to come
   abbrev pub ahead : ConnCoreState Hall → Option ℕ → Input → Outcome
   ahead c cut input =
-      let later = later_unless c.closes (p.answers (p.answer_limit - c.answered) c.hall
+      let later = later_unless c.closes (p.answers (p.answer_limit c.hall - c.answered) c.hall
       (c.buffer ++ input.bytes)) in
       cut_off cut (unsent_bytes c.parts ++ texts_of p later)
       (end_of (c.closes || is_closed p later) input.stop)

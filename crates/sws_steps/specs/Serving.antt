@@ -17,7 +17,7 @@ RoseBy more before now = (before.number + more ≤ now.number) ⊎ IsTrue now.fu
 module _ {Hall Answer : Type 0} (p : Protocol Hall Answer) where
   -- the input has ended, as many bytes were taken as count, or an answer to them closes
   abbrev pub IsLast : Hall → LinkContents → Type 0
-  IsLast hall tells = (tells.left ≡ []) ⊎ (length tells.taken ≡ p.input_limit)
+  IsLast hall tells = (tells.left ≡ []) ⊎ (length tells.taken ≡ p.input_limit hall)
       ⊎ (is_closed p (p.answers_to hall tells.taken) ≡ true)
 
   -- The whole input is the same, of which no more was taken than counts; what was written begins
@@ -25,7 +25,7 @@ module _ {Hall Answer : Type 0} (p : Protocol Hall Answer) where
   -- input, and nothing more comes.
   pub record ServesToEnd (hall : Hall) (before now : LinkContents) (end : End) : Type 0 where
     pub input : input_of now ≡ input_of before
-    pub few : length now.taken ≤ p.input_limit
+    pub few : length now.taken ≤ p.input_limit hall
     pub prefix : IsPrefix now.written (p.responses_of hall now.taken)
     pub whole : end ≡ Done → now.written ≡ p.responses_of hall (input_of before)
     pub last : end ≡ Done → IsLast hall now

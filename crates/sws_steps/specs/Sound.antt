@@ -36,7 +36,7 @@ module _ {Hall Answer : Type 0} (p : Protocol Hall Answer) where
   pub record IsBetween (c : ConnCoreState Hall) : Type 0 where
     pub nothing : is_sent c.parts ≡ true
     pub goes_on : c.closes ≡ false
-    pub more : c.answered < p.answer_limit
+    pub more : c.answered < p.answer_limit c.hall
     pub no_end : c.end ≡ None
     pub patient : c.waits < wait_limit
 
@@ -45,7 +45,7 @@ module _ {Hall Answer : Type 0} (p : Protocol Hall Answer) where
   pub record IsToRead (c : ConnCoreState Hall) : Type 0 where
     pub between : IsBetween c
     pub not_yet : p.cut c.buffer ≡ NotYet
-    pub room : c.read < p.input_limit
+    pub room : c.read < p.input_limit c.hall
     pub goes_on : c.input_ended ≡ false
 
   -- the connection was not kept waiting since the last piece
@@ -61,7 +61,7 @@ module _ {Hall Answer : Type 0} (p : Protocol Hall Answer) where
   -- something of an answer is left to write, and unless it closes there may be another after it
   pub record IsToWrite (c : ConnCoreState Hall) : Type 0 where
     pub something : is_sent c.parts ≡ false
-    pub more : c.closes ≡ false → c.answered < p.answer_limit
+    pub more : c.closes ≡ false → c.answered < p.answer_limit c.hall
     pub no_end : c.end ≡ None
     pub patient : c.waits < wait_limit
 
@@ -124,14 +124,14 @@ module _ {Hall Answer : Type 0} (p : Protocol Hall Answer) where
     pub sent_is : sent ++ unsent_bytes c.parts ≡ texts_of p given
     pub count : length given ≡ c.answered
     pub last : IsUnanswered c.parts given ⊎ IsWriting c.parts c.note given
-    pub given_first : (more : List ℕ) → p.answers p.answer_limit c.hall (consumed ++ more)
-        ≡ given ++ later_unless c.closes (p.answers (p.answer_limit - c.answered) c.hall more)
+    pub given_first : (more : List ℕ) → p.answers (p.answer_limit c.hall) c.hall (consumed ++ more)
+        ≡ given ++ later_unless c.closes (p.answers (p.answer_limit c.hall - c.answered) c.hall more)
     pub closed_is : c.closes ≡ true → is_closed p given ≡ true
     pub read_is : c.read ≡ length taken
     pub written_is : c.written ≡ length sent
-    pub read_few : c.read ≤ p.input_limit
+    pub read_few : c.read ≤ p.input_limit c.hall
     pub limits : p.IsHall c.hall
-    pub given_few : c.answered ≤ p.answer_limit
+    pub given_few : c.answered ≤ p.answer_limit c.hall
     pub texts_few : length (texts_of p given) ≤ c.answered * p.text_limit
 
 -- whether a write may have failed, or have met want of memory

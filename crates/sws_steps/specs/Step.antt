@@ -88,11 +88,11 @@ after_write c write.Memory = ending_as c ending.Memory
 module _ {Hall Answer : Type 0} (p : Protocol Hall Answer) (c : ConnCoreState Hall) where
   -- the room of the next read
   abbrev pub room_of : ℕ
-  room_of = min read_limit (p.input_limit - c.read)
+  room_of = min read_limit (p.input_limit c.hall - c.read)
 
   -- whether no more input comes
   abbrev pub has_all_input : Bool
-  has_all_input = c.input_ended || nat_le p.input_limit c.read
+  has_all_input = c.input_ended || nat_le (p.input_limit c.hall) c.read
 
   -- what follows the cut of the buffer: a request, whole or too long, is answered; where there is
   -- none yet more is read, and where no more comes all is done
@@ -119,7 +119,7 @@ module _ {Hall Answer : Type 0} (p : Protocol Hall Answer) (c : ConnCoreState Ha
 
   -- whether the next answer is the last that the connection may give, which has to close it
   abbrev pub is_last : Bool
-  is_last = c.answered + 1 == p.answer_limit
+  is_last = c.answered + 1 == p.answer_limit c.hall
 
   -- the request at the front of the buffer is answered and taken off it; one that is too long takes
   -- the whole buffer with it, since where the next begins isn't known

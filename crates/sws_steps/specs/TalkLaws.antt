@@ -88,15 +88,15 @@ module _ {Hall Answer : Type 0} (p : Protocol Hall Answer) (orderly : IsOrderly 
       → IsPrefix (p.responses_of hall front) (p.responses_of hall bytes)
   unfolding Begins
   responses-begin hall front bytes (more, is) =
-      let all : List ℕ → List Answer = (λ b. p.answers p.answer_limit hall b) in
-      let counted = take-append p.input_limit front more in
-      let first = all (take p.input_limit front) in
-      let begins = answers-begin p.answer_limit hall (take p.input_limit front) counted.0 in
+      let all : List ℕ → List Answer = (λ b. p.answers (p.answer_limit hall) hall b) in
+      let counted = take-append (p.input_limit hall) front more in
+      let first = all (take (p.input_limit hall) front) in
+      let begins = answers-begin (p.answer_limit hall) hall (take (p.input_limit hall) front) counted.0 in
       let texts : (b : List ℕ)
-      → p.responses_of hall b ≡ texts_of p (all (take p.input_limit b)) =
+      → p.responses_of hall b ≡ texts_of p (all (take (p.input_limit hall) b)) =
       (λ b. orderly.texts hall b ∙ ap (texts_of p) (orderly.all hall b)) in (
         texts_of p begins.0,
-        texts bytes ∙ ap (λ b. texts_of p (all (take p.input_limit b))) is
+        texts bytes ∙ ap (λ b. texts_of p (all (take (p.input_limit hall) b))) is
             ∙ ap (λ b. texts_of p (all b)) counted.1
             ∙ ap (texts_of p) begins.1
             ∙ flat_map-append (text_of p) first begins.0

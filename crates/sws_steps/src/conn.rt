@@ -1,7 +1,8 @@
 //! A connection over a link, which does one step at a time.
-ghost use Rattle.std.specs.Prelude.{◌≡◌, ◌≢◌, ◌≤◌, ◌<◌, ◌+◌, ◌^◌, ◌↔◌, ◌∷◌, [], false, IfOk, IfErr, IsSome, Some, None};
+ghost use Rattle.std.specs.Prelude.{◌≡◌, ◌≢◌, ◌≤◌, ◌+◌, ◌↔◌, ◌∷◌, [], false, IfOk, IfErr, IsSome, Some, None};
 ghost use Rattle.std.specs.Option.{option_copied};
 ghost use Rattle.sws_link.specs.Links.{IsInitialLink};
+ghost use Rattle.sws_steps.specs.Protocol.{output_limit};
 ghost use Rattle.sws_steps.specs.ConnCore.{reported_step, told_end};
 ghost use Rattle.sws_steps.specs.ConnCoreFields.{state_of};
 ghost use Rattle.sws_steps.specs.Step.{Steps, StepsFrom, Opens};
@@ -158,7 +159,7 @@ impl<S: Speech + Drop, L: Link + Drop> SpeechConn<S, L> {
     /// How many bytes were taken, as many at most as count.
     pub fn read(&self) -> u64
         ensures read { result ≡ self.now.conn.standing.read }
-        ensures few { result ≤ S.protocol.input_limit }
+        ensures few { result ≤ S.protocol.input_limit self.now.conn.standing.hall }
     {
         self.core.read
     }
@@ -166,7 +167,7 @@ impl<S: Speech + Drop, L: Link + Drop> SpeechConn<S, L> {
     /// How many bytes were written.
     pub fn written(&self) -> u64
         ensures written { result ≡ self.now.conn.standing.written }
-        ensures few { result < 2 ^ 40 }
+        ensures few { result ≤ output_limit S.protocol self.now.conn.standing.hall }
     {
         self.core.written
     }
@@ -183,7 +184,7 @@ impl<S: Speech + Drop, L: Link + Drop> SpeechConn<S, L> {
         let note = self.core.speech.note();
         Some(LogLine {
             conn,
-            turn: u16::from(self.core.answered),
+            turn: self.core.answered,
             code: note.code,
             length: note.length,
             target: note.target,

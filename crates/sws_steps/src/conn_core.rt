@@ -30,7 +30,7 @@ pub struct ConnCore<S> {
     /// Whether the connection ends with the answer that is written.
     pub closes: bool,
     /// How many requests were answered.
-    pub answered: u8,
+    pub answered: u16,
     /// The end, as soon as it is known.
     pub end: Option<End>,
     /// How many bytes were taken.
@@ -42,7 +42,7 @@ pub struct ConnCore<S> {
 impl<S: Speech> ConnCore<S> {
     /// Takes a piece of the input, or learns that no more comes.
     pub fn read_step<L: Link>(&mut self, link: &mut L)
-        requires read { self.old.read < S.protocol.input_limit }
+        requires read { self.old.read < S.protocol.input_limit (S.hall_of self.old.speech) }
         requires not_yet { S.protocol.cut (S.bytes_of self.old.speech) ≡ NotYet }
         requires waits { self.old.waits < wait_limit }
         requires not_shut { L.is_shut link.old ≡ false }
@@ -83,7 +83,8 @@ impl<S: Speech> ConnCore<S> {
 
     /// Answers the request at the front, which the search has found already.
     pub fn look_step(&mut self)
-        requires answered { self.old.answered < S.protocol.answer_limit }
+        requires answered { self.old.answered
+            < S.protocol.answer_limit (S.hall_of self.old.speech) }
         requires there { S.protocol.cut (S.bytes_of self.old.speech) ≢ NotYet }
         ensures { state_of S.Speech self.new
             ≡ after_look S.protocol (state_of S.Speech self.old)

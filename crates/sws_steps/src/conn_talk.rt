@@ -1,5 +1,6 @@
 //! A connection as a talk, whatever its speech.
 ghost use Rattle.std.specs.Prelude.{List, ℕ};
+ghost use Rattle.sws_steps.specs.Protocol.{output_limit};
 ghost use Rattle.sws_steps.specs.Outcome.{outcome_of, UnlessMemory};
 ghost use Rattle.sws_steps.specs.declared.Handler.{Handler};
 ghost use Rattle.sws_steps.specs.Path.{path_of, known_rest, TakesOff};
@@ -43,6 +44,10 @@ impl<S: Speech + Drop, L: Link + Drop> Talk<L> for SpeechConn<S, L> {
     ghost told = { λ talk. talk.told };
 
     ghost steps = { λ hall script. steps_of S.protocol hall script };
+
+    ghost input_limit = { S.protocol.input_limit };
+
+    ghost output_limit = { λ hall. output_limit S.protocol hall };
 
     fn make(alloc: Global, hall: S::Hall) -> Result<SpeechConn<S, L>, Memory> {
         SpeechConn::new(alloc, hall)
@@ -118,6 +123,10 @@ impl<S: Speech + Drop, L: Link + Drop> Talk<L> for SpeechConn<S, L> {
     ghost log_begins = { log-begins S.protocol S.orderly };
 
     ghost steps_are = { steps_of-handlers S.protocol };
+
+    ghost few_input = { S.orderly.few_input };
+
+    ghost few_output = { S.orderly.few_written };
 
     ghost unkept = { λ talk. end-unkept talk.conn.standing };
 }

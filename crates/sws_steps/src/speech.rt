@@ -52,13 +52,13 @@ pub trait Speech: Sized {
         ensures parts { IfOk result (λ speech. parts_of speech ≡ record { head = []; body = [] }) }
         ensures note { IfOk result (λ speech. note_of speech ≡ no_note) };
 
-    /// The most bytes of a connection that count.
+    /// The most bytes of a connection that count, as its hall has it, 1 to 4,294,967,295.
     fn input_limit(&self) -> u64
-        ensures { result ≡ protocol.input_limit };
+        ensures { result ≡ protocol.input_limit (hall_of self.now) };
 
-    /// The most answers of a connection.
-    fn answer_limit(&self) -> u8
-        ensures { result ≡ protocol.answer_limit };
+    /// The most answers of a connection, as its hall has it, 1 to 65,535.
+    fn answer_limit(&self) -> u16
+        ensures { result ≡ protocol.answer_limit (hall_of self.now) };
 
     /// Whether its answers have lines in a log.
     fn logs(&self) -> bool

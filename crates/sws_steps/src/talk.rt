@@ -1,5 +1,5 @@
 //! What a server asks of a connection, whatever it talks about.
-ghost use Rattle.std.specs.Prelude.{false, Bool, ◌≡◌, ◌≢◌, ◌≤◌, ◌<◌, ◌+◌, ◌^◌, ◌↔◌, [], ◌∷◌, ◌++◌, List, ℕ, Option, Some, None, IfOk, IfSome, IsSome, is_some, map};
+ghost use Rattle.std.specs.Prelude.{false, Bool, ◌≡◌, ◌≢◌, ◌≤◌, ◌<◌, ◌+◌, ◌↔◌, [], ◌∷◌, ◌++◌, List, ℕ, Option, Some, None, IfOk, IfSome, IsSome, is_some, map};
 ghost use Rattle.std.specs.Option.{option_copied};
 ghost use Rattle.sws_link.specs.Scripts.{Script};
 ghost use Rattle.sws_link.specs.Contents.{IsPrefix};
@@ -8,7 +8,7 @@ ghost use Rattle.sws_steps.specs.Outcome.{Outcome, UnlessMemory};
 ghost use Rattle.sws_steps.specs.declared.Handler.{Handler};
 ghost use Rattle.sws_steps.specs.Path.{TakesOff};
 ghost use Rattle.sws_log.specs.declared.line.LogLine.{LogLine as LogLineValue};
-ghost use Rattle.sws_steps.specs.Protocol.{most_input};
+ghost use Rattle.sws_steps.specs.Protocol.{most_input, most_output};
 ghost use Rattle.sws_steps.specs.Logs.{Step, bit, IsLineOf, IsLogPrefix};
 ghost use Rattle.sws_steps.specs.Talks.{TalkView, unopened_view, reported_next, reported_end, due, OpensTalk, HasNoStep, HasServed, ServesNow, path_to_come, IsDue, LinesServed, StepsServed};
 
@@ -73,6 +73,12 @@ pub trait Talk<L: Link>: Sized {
     /// The steps of a scripted connection: its path, with which of them give a line.
     ghost steps: { Self.Contents → Script → List Step };
 
+    /// How many bytes of a connection count.
+    ghost input_limit: { Self.Contents → ℕ };
+
+    /// How many bytes are written of one at most.
+    ghost output_limit: { Self.Contents → ℕ };
+
     /// A talk that waits for its link. All room is made here that it will need; where that was
     /// refused, the answer is `Memory`.
     fn make(alloc: Global, hall: Self::Hall) -> Result<Self, Memory>
@@ -116,15 +122,15 @@ pub trait Talk<L: Link>: Sized {
         ensures end { result ≡ reported_end (view_of self.now) }
         ensures closed { IsSome result ↔ ((view_of self.now).pending ≡ Next.Nothing) };
 
-    /// How many bytes were taken, 65,536 at most.
+    /// How many bytes were taken, as many at most as count.
     fn read(&self) -> u64
         ensures read { result ≡ (view_of self.now).read }
-        ensures few { result ≤ most_input };
+        ensures few { result ≤ input_limit (hall_of self.now) };
 
     /// How many bytes were written.
     fn written(&self) -> u64
         ensures written { result ≡ (view_of self.now).written }
-        ensures few { result < 2 ^ 40 };
+        ensures few { result ≤ output_limit (hall_of self.now) };
 
     /// The line of the answer that the last step wrote to its end, with this number as that of its
     /// connection; none where that step didn't end one, or such answers have no lines.
@@ -181,6 +187,12 @@ pub trait Talk<L: Link>: Sized {
     /// The handlers of the steps of a scripted connection are its path.
     ghost steps_are: { (hall : Self.Contents) (script : Script)
         → map (λ step. step.handler) (steps hall script) ≡ path hall script };
+
+    /// Of no connection more than 4,294,967,295 bytes count.
+    ghost few_input: { (hall : Self.Contents) → input_limit hall ≤ most_input };
+
+    /// Of none 2^50 bytes are written.
+    ghost few_output: { (hall : Self.Contents) → output_limit hall < most_output };
 
     /// A talk whose end is known isn't kept waiting.
     ghost unkept: { (talk : Self) → IsSome (view_of talk).end

@@ -16,6 +16,7 @@ use Rattle.sws_link.specs.declared.Put.{Put}
 use Rattle.sws_link.specs.declared.Put.TheVariants as put
 use Rattle.sws_link.specs.declared.Sink.{Ghosts as SinkWords}
 use Rattle.sws_link.specs.declared.world.World.{Ghosts as WorldWords}
+use Rattle.sws_steps.specs.Protocol.{most_input, most_output}
 use Rattle.sws_steps.specs.declared.End.{End}
 use Rattle.sws_steps.specs.declared.End.TheVariants as ending
 use Rattle.sws_steps.specs.declared.talk.Talk.{Ghosts as TalkWords}
@@ -94,25 +95,25 @@ none_refused (s ∷ served) none =
     by_end (Some end) fine rest = (λ same. fine (ap (λ e. Some e) same), rest)
 
 module _ {W L T G H : Type 0} (x : WorldWords W L) (l : LinkWords L) (y : TalkWords T L G H) (shape : Shape) (hall : H) (first : W) (log : Bool) (ended : Ended W L) where
-  sums : HasRun x l y shape hall first log ended → (x.tells first).total ≤ 1024 → ended.verdict ≡ verdict.Ok → CanSumUp ended.served.items
-  sums run few ok =
+  sums : y.input_limit hall ≤ most_input → y.output_limit hall < most_output → HasRun x l y shape hall first log ended → (x.tells first).total ≤ 1024 → ended.verdict ≡ verdict.Ok → CanSumUp ended.served.items
+  sums most_in most_out run few ok =
       let many = run.many_served in
       let trails = map (λ t. t.items) ended.trails.items in
       let long : length trails ≡ colours_over (x.tells first).total log = length_mapped (λ t. t.items) ended.trails.items ∙ run.many_trails in
-      let read = sum_bound (λ (s : Served L). s.read) 65536 ended.served.items (λ i s is.
+      let read = sum_bound (λ (s : Served L). s.read) most_input ended.served.items (λ i s is.
       let within = slice_get_within ended.served.items i s is in
       let trail = get_in trails (i + 2) (omega arith) in
-      (run.conn i s trail.0 is trail.1).few_read) in
-      let written = sum_bound (λ (s : Served L). s.written) 1099511627776 ended.served.items (λ i s is.
+      let less = (run.conn i s trail.0 is trail.1).few_read in omega (arith, less, most_in)) in
+      let written = sum_bound (λ (s : Served L). s.written) most_output ended.served.items (λ i s is.
       let within = slice_get_within ended.served.items i s is in
       let trail = get_in trails (i + 2) (omega arith) in
-      let less = (run.conn i s trail.0 is trail.1).few_written in omega arith) in
+      let less = (run.conn i s trail.0 is trail.1).few_written in omega (arith, less, most_out)) in
       record { ends = none_refused ended.served.items (run.enough (λ same. ok≢memory (sym ok ∙ same))); read = omega arith; written = omega arith }
 
   -- at the verdict Ok all can be summed up
-  pub can_sum_up : ServerLeaves x l y shape hall first log ended → (x.tells first).total ≤ 1024 → ended.verdict ≡ verdict.Ok → CanSumUp ended.served.items
-  can_sum_up (inl begun) few ok = (let other : verdict.Ok ≡ verdict.Memory = sym ok ∙ begun.refused in cc)
-  can_sum_up (inr run) few ok = sums run few ok
+  pub can_sum_up : y.input_limit hall ≤ most_input → y.output_limit hall < most_output → ServerLeaves x l y shape hall first log ended → (x.tells first).total ≤ 1024 → ended.verdict ≡ verdict.Ok → CanSumUp ended.served.items
+  can_sum_up most_in most_out (inl begun) few ok = (let other : verdict.Ok ≡ verdict.Memory = sym ok ∙ begun.refused in cc)
+  can_sum_up most_in most_out (inr run) few ok = sums most_in most_out run few ok
 
   -- a world that failed is handed out
   pub held_of : ServerLeaves x l y shape hall first log ended → ended.verdict ≡ verdict.World → IsSome ended.world

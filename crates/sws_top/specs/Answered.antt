@@ -19,8 +19,8 @@ pub record Answered (site : SiteState) (input before : List ℕ) (left written :
   pub sent : List ℕ
   pub split : input ≡ read ++ rest
   pub left_is : left ≡ Some rest
-  pub within : length read ≤ input_limit
-  pub whole : fault ≡ None → (rest ≡ []) ⊎ (length read ≡ input_limit)
+  pub within : length read ≤ input_limit site
+  pub whole : fault ≡ None → (rest ≡ []) ⊎ (length read ≡ input_limit site)
       ⊎ (is_closed (answers_to site read) ≡ true)
   pub written_is : written ≡ Some (before ++ sent)
   pub front_of_read : Begins sent (responses_of site read)

@@ -6,6 +6,7 @@ use Rattle.sws_link.specs.declared.Link.{Ghosts as LinkWords}
 use Rattle.sws_link.specs.declared.Source.{Ghosts as SourceWords}
 use Rattle.sws_link.specs.declared.Sink.{Ghosts as SinkWords}
 use Rattle.sws_link.specs.declared.world.World.{Ghosts as WorldWords}
+use Rattle.sws_steps.specs.Protocol.{output_limit}
 use Rattle.sws_steps.specs.Outcome.{outcome_of}
 use Rattle.sws_steps.specs.Path.{path_of}
 use Rattle.sws_steps.specs.declared.talk.Talk.{Ghosts as TalkWords}
@@ -27,6 +28,8 @@ by_gopher place = record {
   path = path_of gopher place;
   responses = gopher.responses_of place;
   log = λ conn bytes. [];
+  input_limit = gopher.input_limit place;
+  output_limit = output_limit gopher place;
 }
 
 -- A run in a hall of the site: there was no memory to prepare it, with all else untouched, or the

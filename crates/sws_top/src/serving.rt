@@ -1,8 +1,9 @@
 //! The command `serve`: connections from outside.
-ghost use Rattle.std.specs.Prelude.{◌≡◌, ◌<◌, ◌^◌, ◌++◌, IfOk, sum_by};
+ghost use Rattle.std.specs.Prelude.{◌≡◌, ◌<◌, ◌≤◌, ◌^◌, ◌++◌, IfOk, sum_by};
 ghost use Rattle.sws_link.specs.Contents.{Puts};
 ghost use Rattle.sws_link.specs.Counts.{HasCause};
 ghost use Rattle.sws_log.specs.Lines.{log_text};
+ghost use Rattle.sws_steps.specs.Protocol.{most_input, most_output};
 ghost use Rattle.sws_top.specs.Faults.{put_fault_of, status_of};
 ghost use Rattle.sws_top.specs.RanServe.{ends_of, summary_of, CanSumUp, EndsBy, IsServeEnd, RanServe};
 ghost use Rattle.sws_top.specs.Ranges.{IsBetween, IsDate, IsRunShape};
@@ -18,7 +19,7 @@ use std::sync::Wait;
 use std::thread::Threads;
 use sws_conn::{Conn, End, Talk};
 use sws_engine::{Served, Verdict, talk_all};
-use sws_link::{Folder, Opened, Put, Sink, World};
+use sws_link::{Folder, Link, Opened, Put, Sink, World};
 use sws_log::{LogLine, write_log};
 use sws_report::write_summary;
 
@@ -61,6 +62,13 @@ where
     }
 }
 
+/// No connection counts so much that the sums of a run don't fit 64 bits, for contracts alone. A
+/// call does nothing.
+fn little_counts<L: Link, T: Talk<L>>()
+    ensures input { (hall : T.Contents) → T.input_limit hall ≤ most_input }
+    ensures output { (hall : T.Contents) → T.output_limit hall < most_output }
+{}
+
 /// Serves the connections that the world gives by talks of one hall, and writes the lines of the
 /// log where that is kept, and their summary.
 pub fn serve_hall<
@@ -80,6 +88,7 @@ where
         (K.contents_of hall) }
 {
     let mut world = world;
+    little_counts::<W::Link, K>();
     match world.open(how.port, how.connections) {
         Opened::Ready => {}
         Opened::Failed => return Outcome::without_run(world, Err(TopFault::WorldFault)),

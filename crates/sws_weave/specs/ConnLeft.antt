@@ -1,11 +1,10 @@
 -- What a run leaves of a connection.
-use Rattle.std.specs.Prelude.{◌≡◌, ◌≤◌, ◌<◌, ◌^◌, ◌↔◌, ◌⊎◌, ℕ, List, [], ◌∷◌, map, Option, None, Some, IsSome}
+use Rattle.std.specs.Prelude.{◌≡◌, ◌≤◌, ◌↔◌, ◌⊎◌, ℕ, List, [], ◌∷◌, map, Option, None, Some, IsSome}
 use Rattle.mely_event.specs.declared.event.Event.{Event}
 use Rattle.sws_link.specs.declared.Link.{Ghosts as LinkWords}
 use Rattle.sws_link.specs.declared.world.World.{Ghosts as WorldWords}
 use Rattle.sws_steps.specs.declared.Next.TheVariants as next
 use Rattle.sws_steps.specs.declared.talk.Talk.{Ghosts as TalkWords}
-use Rattle.sws_conn.specs.Responses.{input_limit}
 use Rattle.sws_conn.specs.Outcome.{UnlessMemory}
 use Rattle.sws_steps.specs.declared.Handler.{Handler}
 use Rattle.sws_conn.specs.Path.{TakesOff}
@@ -42,9 +41,9 @@ module _ {W L T G H : Type 0} (x : WorldWords W L) (l : LinkWords L) (y : TalkWo
     pub end : s.end ≡ reported_end view
     pub closed : IsSome s.end ↔ (view.pending ≡ next.Nothing)
     pub read : s.read ≡ view.read
-    pub few_read : s.read ≤ input_limit
+    pub few_read : s.read ≤ y.input_limit hall
     pub written : s.written ≡ view.written
-    pub few_written : s.written < 2 ^ 40
+    pub few_written : s.written ≤ y.output_limit hall
     -- how many lines it has given, whether or not they are in the log
     pub answered : s.answered ≡ view.lines
     -- without an event that wasn't due the trail is the steps that were run

@@ -1,5 +1,6 @@
 //! What these crates give for worked rows, a module for each.
 
+mod additions;
 mod answers;
 mod files;
 mod links;

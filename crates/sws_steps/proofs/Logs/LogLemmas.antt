@@ -139,29 +139,29 @@ module _ {Hall Answer : Type 0} (p : Protocol Hall Answer) where
     -- the answers to the whole input are those that were given, and more
     pub record WholeLog (c : ConnCoreState Hall) (tells : LinkContents) (given : List Answer) : Type 0 where
       pub more : List ℕ
-      pub is : p.answers_to c.hall (input_of tells) ≡ given ++ later_unless c.closes (p.answers (p.answer_limit - c.answered) c.hall more)
+      pub is : p.answers_to c.hall (input_of tells) ≡ given ++ later_unless c.closes (p.answers (p.answer_limit c.hall - c.answered) c.hall more)
 
     pub answers-given : (c : ConnCoreState Hall) (tells : LinkContents) (taken sent : List ℕ) (k : Progress p c taken sent) → tells.taken ≡ taken → WholeLog c tells k.given
     answers-given c tells taken sent k taken_is = record {
       more = more;
-      is = orderly.all c.hall (input_of tells) ∙ ap (p.answers p.answer_limit c.hall) counted ∙ k.given_first more;
+      is = orderly.all c.hall (input_of tells) ∙ ap (p.answers (p.answer_limit c.hall) c.hall) counted ∙ k.given_first more;
     }
       where
         behind : List ℕ
         behind = c.buffer ++ tells.left
 
         more : List ℕ
-        more = take (p.input_limit - length k.consumed) behind
+        more = take (p.input_limit c.hall - length k.consumed) behind
 
-        no_longer : length k.consumed ≤ p.input_limit
+        no_longer : length k.consumed ≤ p.input_limit c.hall
         no_longer = let few = k.read_few in let long = k.read_is in let all = ap length k.taken_is in omega (arith, length-append k.consumed c.buffer)
 
-        counted : take p.input_limit (input_of tells) ≡ k.consumed ++ more
+        counted : take (p.input_limit c.hall) (input_of tells) ≡ k.consumed ++ more
         counted =
-            ap (λ t. take p.input_limit (t ++ tells.left)) (taken_is ∙ k.taken_is)
-            ∙ ap (take p.input_limit) (append_assoc k.consumed c.buffer tells.left)
-            ∙ ap (λ n. take n (k.consumed ++ behind)) (let few = no_longer in let sum : p.input_limit ≡ length k.consumed + (p.input_limit - length k.consumed) = omega arith in sum)
-            ∙ take-append-add k.consumed behind (p.input_limit - length k.consumed)
+            ap (λ t. take (p.input_limit c.hall) (t ++ tells.left)) (taken_is ∙ k.taken_is)
+            ∙ ap (take (p.input_limit c.hall)) (append_assoc k.consumed c.buffer tells.left)
+            ∙ ap (λ n. take n (k.consumed ++ behind)) (let few = no_longer in let sum : p.input_limit c.hall ≡ length k.consumed + (p.input_limit c.hall - length k.consumed) = omega arith in sum)
+            ∙ take-append-add k.consumed behind (p.input_limit c.hall - length k.consumed)
 
     -- as many lines were given as answers were written whole
     pub lines-served : (c : ConnCoreState Hall) (tells : LinkContents) (taken sent : List ℕ) (conn : ℕ) → Progress p c taken sent → tells.taken ≡ taken
@@ -173,7 +173,7 @@ module _ {Hall Answer : Type 0} (p : Protocol Hall Answer) where
         whole = answers-given c tells taken sent k taken_is
 
         later : List Answer
-        later = later_unless c.closes (p.answers (p.answer_limit - c.answered) c.hall whole.more)
+        later = later_unless c.closes (p.answers (p.answer_limit c.hall - c.answered) c.hall whole.more)
 
         -- of all answers so many were written whole, and not the next one
         served : (lines : ℕ) (front behind : List Answer) → p.logs ≡ true → lines ≡ length front → k.given ++ later ≡ front ++ behind
@@ -195,7 +195,7 @@ module _ {Hall Answer : Type 0} (p : Protocol Hall Answer) where
             let size : c.written ≡ length (texts_of p k.given) = k.written_is ∙ ap length (all_sent (sym e)) in
             served c.answered k.given later logs (sym k.count) refl (omega arith)
             (subst (λ n. StopsAt n later) (let none : 0 ≡ c.written - length (texts_of p k.given) = omega arith in none)
-            (stops-unless orderly logs c.closes (p.answer_limit - c.answered) c.hall whole.more))
+            (stops-unless orderly logs c.closes (p.answer_limit c.hall - c.answered) c.hall whole.more))
         by_sent false e logs = by_last k.last
           where
             some : 0 < length (unsent_bytes c.parts)
@@ -234,7 +234,7 @@ module _ {Hall Answer : Type 0} (p : Protocol Hall Answer) where
         whole = answers-given c tells taken sent k taken_is
 
         later : List Answer
-        later = later_unless c.closes (p.answers (p.answer_limit - c.answered) c.hall whole.more)
+        later = later_unless c.closes (p.answers (p.answer_limit c.hall - c.answered) c.hall whole.more)
 
         by_last : IsUnanswered p c.parts k.given ⊎ IsWriting p c.parts c.note k.given → IsLineOf (log_of p c.hall conn) (Some tells) (line_of conn c.answered c.note)
         by_last (inl none) = let no = ap length none.given_is in let many = k.count in absurd (omega arith)

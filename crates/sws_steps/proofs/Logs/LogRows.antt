@@ -53,8 +53,8 @@ echo = record {
   answers = λ left hall bytes. echoes left bytes;
   answers_to = λ hall bytes. echoes 2 (take 8 bytes);
   responses_of = λ hall bytes. flat_map text_of (echoes 2 (take 8 bytes));
-  input_limit = 8;
-  answer_limit = 2;
+  input_limit = λ hall. 8;
+  answer_limit = λ hall. 2;
   text_limit = 2;
 }
 
@@ -109,10 +109,10 @@ echo-orderly = record {
   all = λ hall bytes. refl;
   texts = λ hall bytes. refl;
   nothing = refl;
-  some_input = lit< tt;
-  some_answers = lit< tt;
-  few_input = lit< tt;
-  few_written = lit< tt;
+  some_input = λ hall. lit< tt;
+  some_answers = λ hall. lit< tt;
+  few_input = λ hall. lit< tt;
+  few_written = λ hall. lit< tt;
 }
 
 -- ---- the log

@@ -113,9 +113,9 @@ module _ {Hall Answer : Type 0} (p : Protocol Hall Answer) (orderly : IsOrderly 
 
   pub opened-ready : (hall : Hall) → Ready p (going_to (core_before_open hall) next.Read)
   opened-ready hall = record {
-    between = record { nothing = refl; goes_on = refl; more = orderly.some_answers; no_end = refl; patient = lit< tt };
+    between = record { nothing = refl; goes_on = refl; more = orderly.some_answers hall; no_end = refl; patient = lit< tt };
     not_yet = orderly.nothing;
-    room = orderly.some_input;
+    room = orderly.some_input hall;
     goes_on = refl;
   }
 

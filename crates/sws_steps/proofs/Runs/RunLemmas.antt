@@ -54,7 +54,7 @@ module _ {Hall Answer : Type 0} (p : Protocol Hall Answer) (orderly : IsOrderly 
       sent_is = refl;
       count = refl;
       last = inl (record { given_is = refl; nothing = refl });
-      given_first = λ more. ap (λ n. p.answers n hall more) (let whole : p.answer_limit ≡ p.answer_limit - 0 = omega arith in whole);
+      given_first = λ more. ap (λ n. p.answers n hall more) (let whole : p.answer_limit hall ≡ p.answer_limit hall - 0 = omega arith in whole);
       closed_is = λ closes. absurd (let no : false ≡ true = closes in cc);
       read_is = refl;
       written_is = refl;
@@ -147,7 +147,7 @@ module _ {Hall Answer : Type 0} (p : Protocol Hall Answer) (orderly : IsOrderly 
           sent_is = refl;
           count = refl;
           last = inl (record { given_is = refl; nothing = refl });
-          given_first = λ more. ap (λ n. p.answers n hall more) (let whole : p.answer_limit ≡ p.answer_limit - 0 = omega arith in whole);
+          given_first = λ more. ap (λ n. p.answers n hall more) (let whole : p.answer_limit hall ≡ p.answer_limit hall - 0 = omega arith in whole);
           closed_is = λ closes. absurd (let no : false ≡ true = closes in cc);
           read_is = refl;
           written_is = refl;

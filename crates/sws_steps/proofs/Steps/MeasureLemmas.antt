@@ -73,8 +73,8 @@ module _ {Hall Answer : Type 0} (p : Protocol Hall Answer) (orderly : IsOrderly 
       answered : (answer : Answer) (rest : List ℕ) → length (text_of p answer) ≤ p.text_limit → steps_left p (after_answer p c answer rest) < steps_left p c
       answered answer rest few = by_bytes (p.is_empty answer) (p.closes answer)
         where
-          one : (p.answer_limit - c.answered) * (p.text_limit + 1) ≡ (p.answer_limit - (c.answered + 1)) * (p.text_limit + 1) + (p.text_limit + 1)
-          one = share p.answer_limit c.answered p.text_limit ready.between.more
+          one : (p.answer_limit c.hall - c.answered) * (p.text_limit + 1) ≡ (p.answer_limit c.hall - (c.answered + 1)) * (p.text_limit + 1) + (p.text_limit + 1)
+          one = share (p.answer_limit c.hall) c.answered p.text_limit ready.between.more
 
           by_bytes : (empty closes : Bool) → steps_left p (after_part empty closes (with_answer p c answer rest)) < steps_left p c
           by_bytes false closes = let t = two in omega (arith, one)

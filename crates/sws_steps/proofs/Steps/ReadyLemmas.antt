@@ -43,13 +43,13 @@ module _ {Hall Answer : Type 0} (p : Protocol Hall Answer) (orderly : IsOrderly 
     goes_on = by_ended c.input_ended e;
   }
     where
-      by_ended : (ended : Bool) → false ≡ (ended || nat_le p.input_limit c.read) → ended ≡ false
+      by_ended : (ended : Bool) → false ≡ (ended || nat_le (p.input_limit c.hall) c.read) → ended ≡ false
       by_ended true f = absurd (let g : false ≡ true = f in cc)
       by_ended false f = refl
 
-      by_parts : (ended : Bool) → false ≡ (ended || nat_le p.input_limit c.read) → c.read < p.input_limit
+      by_parts : (ended : Bool) → false ≡ (ended || nat_le (p.input_limit c.hall) c.read) → c.read < p.input_limit c.hall
       by_parts true f = absurd (let g : false ≡ true = f in cc)
-      by_parts false f = leb-false p.input_limit c.read (sym f)
+      by_parts false f = leb-false (p.input_limit c.hall) c.read (sym f)
 
   pub parse-ready : (c : ConnCoreState Hall) → IsBetween p c → Ready p (after_parse p c (p.cut c.buffer))
   parse-ready c between = by_cut (p.cut c.buffer) refl
@@ -67,17 +67,17 @@ module _ {Hall Answer : Type 0} (p : Protocol Hall Answer) (orderly : IsOrderly 
 
   -- an answer that doesn't close is not the last one
   more-answers : (c : ConnCoreState Hall) (asked : Asked) (last : Bool) → last ≡ is_last p c → IsBetween p c → p.closes (p.answer c.hall asked last) ≡ false
-      → c.answered + 1 < p.answer_limit
+      → c.answered + 1 < p.answer_limit c.hall
   more-answers c asked true e between goes_on = absurd (let f : true ≡ false = sym (orderly.last_closes c.hall asked) ∙ goes_on in cc)
-  more-answers c asked false e between goes_on = by_count (nat_le p.answer_limit (c.answered + 1)) refl
+  more-answers c asked false e between goes_on = by_count (nat_le (p.answer_limit c.hall) (c.answered + 1)) refl
     where
-      by_count : (all : Bool) → all ≡ nat_le p.answer_limit (c.answered + 1) → c.answered + 1 < p.answer_limit
-      by_count false f = leb-false p.answer_limit (c.answered + 1) (sym f)
+      by_count : (all : Bool) → all ≡ nat_le (p.answer_limit c.hall) (c.answered + 1) → c.answered + 1 < p.answer_limit c.hall
+      by_count false f = leb-false (p.answer_limit c.hall) (c.answered + 1) (sym f)
       by_count true f =
           let more = between.more in
-          let long = leb-true p.answer_limit (c.answered + 1) (sym f) in
-          let all : c.answered + 1 ≡ p.answer_limit = omega arith in
-          absurd (let g : false ≡ true = e ∙ eq-eqb (c.answered + 1) p.answer_limit all in cc)
+          let long = leb-true (p.answer_limit c.hall) (c.answered + 1) (sym f) in
+          let all : c.answered + 1 ≡ p.answer_limit c.hall = omega arith in
+          absurd (let g : false ≡ true = e ∙ eq-eqb (c.answered + 1) (p.answer_limit c.hall) all in cc)
 
   -- an answer is written, or it closes and has no bytes
   pub answering-ready : (c : ConnCoreState Hall) (asked : Asked) (rest : List ℕ) → IsBetween p c → Ready p (after_answer p c (p.answer c.hall asked (is_last p c)) rest)

@@ -110,18 +110,18 @@ module _ {Hall Answer : Type 0} (p : Protocol Hall Answer) (orderly : IsOrderly 
 
   -- the input that comes before a read
   input-read : (c : ConnCoreState Hall) (script : Script) → c.pending ≡ next.Read → c.input_ended ≡ false
-      → input_to_come p c script ≡ limit_input (p.input_limit - c.read) (input_from c.waits script.items)
+      → input_to_come p c script ≡ limit_input (p.input_limit c.hall - c.read) (input_from c.waits script.items)
   input-read c script pending goes_on =
-      ap (λ stage. limit_input (p.input_limit - c.read) (input_by c.input_ended (waits_at stage c.waits) script)) pending
-      ∙ ap (λ e. limit_input (p.input_limit - c.read) (input_by e c.waits script)) goes_on
+      ap (λ stage. limit_input (p.input_limit c.hall - c.read) (input_by c.input_ended (waits_at stage c.waits) script)) pending
+      ∙ ap (λ e. limit_input (p.input_limit c.hall - c.read) (input_by e c.waits script)) goes_on
 
   -- where the input stops at once, all ends as the stop says
   ahead-stopped : (c : ConnCoreState Hall) (cut : Option ℕ) (stop : Stop) → IsBetween p c → p.cut c.buffer ≡ NotYet
       → ahead p c cut (empty_input stop) ≡ record { bytes = []; end = end_of false stop }
   ahead-stopped c cut stop between not_yet =
-      let none : later_unless c.closes (p.answers (p.answer_limit - c.answered) c.hall (c.buffer ++ [])) ≡ [] =
-      ap (λ t. later_unless t (p.answers (p.answer_limit - c.answered) c.hall (c.buffer ++ []))) between.goes_on
-      ∙ ap (p.answers (p.answer_limit - c.answered) c.hall) (append-nil c.buffer) ∙ orderly.none_yet (p.answer_limit - c.answered) c.hall c.buffer not_yet in
+      let none : later_unless c.closes (p.answers (p.answer_limit c.hall - c.answered) c.hall (c.buffer ++ [])) ≡ [] =
+      ap (λ t. later_unless t (p.answers (p.answer_limit c.hall - c.answered) c.hall (c.buffer ++ []))) between.goes_on
+      ∙ ap (p.answers (p.answer_limit c.hall - c.answered) c.hall) (append-nil c.buffer) ∙ orderly.none_yet (p.answer_limit c.hall - c.answered) c.hall c.buffer not_yet in
       ap (λ (l : List Answer). cut_off cut (unsent_bytes c.parts ++ texts_of p l) (end_of (c.closes || is_closed p l) stop)) none
       ∙ ap (λ r. cut_off cut (r ++ []) (end_of (c.closes || false) stop)) (nothing-rest c.parts between.nothing)
       ∙ ap (λ t. cut_off cut [] (end_of (t || false) stop)) between.goes_on
@@ -138,30 +138,30 @@ module _ {Hall Answer : Type 0} (p : Protocol Hall Answer) (orderly : IsOrderly 
       let room = ready.room in
       let bytes = take count into in
       let long : length bytes ≡ count = sym gives.1 in
-      let fits : length bytes ≤ p.input_limit - c.read = omega (arith, length-take count into) in
-      let less : p.input_limit - (c.read + count) ≡ p.input_limit - c.read - length bytes = omega arith in
+      let fits : length bytes ≤ p.input_limit c.hall - c.read = omega (arith, length-take count into) in
+      let less : p.input_limit c.hall - (c.read + count) ≡ p.input_limit c.hall - c.read - length bytes = omega arith in
       rest_outcome-no_end (after_read c (read.Took count) into) now between.no_end
-      ∙ ap (λ (s : Script). ahead p (after_read c (read.Took count) into) s.cut (limit_input (p.input_limit - (c.read + count)) (input_by c.input_ended 0 s))) is
-      ∙ ap (λ e. ahead p (after_read c (read.Took count) into) script.cut (limit_input (p.input_limit - (c.read + count)) (input_by e 0 (record script { items = items })))) ready.goes_on
+      ∙ ap (λ (s : Script). ahead p (after_read c (read.Took count) into) s.cut (limit_input (p.input_limit c.hall - (c.read + count)) (input_by c.input_ended 0 s))) is
+      ∙ ap (λ e. ahead p (after_read c (read.Took count) into) script.cut (limit_input (p.input_limit c.hall - (c.read + count)) (input_by e 0 (record script { items = items })))) ready.goes_on
       ∙ ap (λ n. ahead p (after_read c (read.Took count) into) script.cut (limit_input n (input_from 0 items))) less
-      ∙ ap (λ b. let later = later_unless c.closes (p.answers (p.answer_limit - c.answered) c.hall b) in
-      cut_off script.cut (unsent_bytes c.parts ++ texts_of p later) (end_of (c.closes || is_closed p later) (limit_input (p.input_limit - c.read - length bytes) (input_from 0 items)).stop))
-      (append_assoc c.buffer bytes (limit_input (p.input_limit - c.read - length bytes) (input_from 0 items)).bytes)
-      ∙ ap (ahead p c script.cut) (sym (limited-preceded (p.input_limit - c.read) bytes (input_from 0 items) fits))
-      ∙ ap (λ i. ahead p c script.cut (limit_input (p.input_limit - c.read) i)) (sym gives.0)
+      ∙ ap (λ b. let later = later_unless c.closes (p.answers (p.answer_limit c.hall - c.answered) c.hall b) in
+      cut_off script.cut (unsent_bytes c.parts ++ texts_of p later) (end_of (c.closes || is_closed p later) (limit_input (p.input_limit c.hall - c.read - length bytes) (input_from 0 items)).stop))
+      (append_assoc c.buffer bytes (limit_input (p.input_limit c.hall - c.read - length bytes) (input_from 0 items)).bytes)
+      ∙ ap (ahead p c script.cut) (sym (limited-preceded (p.input_limit c.hall - c.read) bytes (input_from 0 items) fits))
+      ∙ ap (λ i. ahead p c script.cut (limit_input (p.input_limit c.hall - c.read) i)) (sym gives.0)
       ∙ ap (ahead p c script.cut) (sym (input-read c script pending ready.goes_on))
       ∙ sym (rest_outcome-no_end c script between.no_end)
   rest_outcome-read c script read.End into items pending ready gives size now is =
       let between = ready.between in
       rest_outcome-no_end (after_read c read.End into) now between.no_end
-      ∙ ap (λ (s : Script). ahead p c s.cut (limit_input (p.input_limit - c.read) (empty_input at_end))) is
-      ∙ ap (λ i. ahead p c script.cut (limit_input (p.input_limit - c.read) i)) (sym gives)
+      ∙ ap (λ (s : Script). ahead p c s.cut (limit_input (p.input_limit c.hall - c.read) (empty_input at_end))) is
+      ∙ ap (λ i. ahead p c script.cut (limit_input (p.input_limit c.hall - c.read) i)) (sym gives)
       ∙ ap (ahead p c script.cut) (sym (input-read c script pending ready.goes_on))
       ∙ sym (rest_outcome-no_end c script between.no_end)
   rest_outcome-read c script read.Failed into items pending ready gives size now is =
       let room = ready.room in
       sym (ap (ahead p c script.cut) (input-read c script pending ready.goes_on
-      ∙ ap (limit_input (p.input_limit - c.read)) gives ∙ limited-stopped (p.input_limit - c.read) at_fault (omega arith))
+      ∙ ap (limit_input (p.input_limit c.hall - c.read)) gives ∙ limited-stopped (p.input_limit c.hall - c.read) at_fault (omega arith))
       ∙ ahead-stopped c script.cut at_fault ready.between ready.not_yet)
       ∙ sym (rest_outcome-no_end c script ready.between.no_end)
   rest_outcome-read c script read.NotReady into items pending ready gives size now is = by_limit (nat_le wait_limit (c.waits + 1)) gives
@@ -171,14 +171,14 @@ module _ {Hall Answer : Type 0} (p : Protocol Hall Answer) (orderly : IsOrderly 
       by_limit true gives =
           let room = ready.room in
           sym (ap (ahead p c script.cut) (input-read c script pending ready.goes_on
-          ∙ ap (limit_input (p.input_limit - c.read)) gives ∙ limited-stopped (p.input_limit - c.read) at_pause (omega arith))
+          ∙ ap (limit_input (p.input_limit c.hall - c.read)) gives ∙ limited-stopped (p.input_limit c.hall - c.read) at_pause (omega arith))
           ∙ ahead-stopped c script.cut at_pause ready.between ready.not_yet)
           ∙ sym (rest_outcome-no_end c script ready.between.no_end)
       by_limit false gives =
           rest_outcome-no_end (still_waiting c false) now ready.between.no_end
           ∙ ap (λ (s : Script). ahead p c s.cut (input_to_come p (still_waiting c false) s)) is
           ∙ ap (ahead p c script.cut) (input-read (still_waiting c false) (record script { items = items }) pending ready.goes_on
-          ∙ ap (limit_input (p.input_limit - c.read)) (sym gives) ∙ sym (input-read c script pending ready.goes_on))
+          ∙ ap (limit_input (p.input_limit c.hall - c.read)) (sym gives) ∙ sym (input-read c script pending ready.goes_on))
           ∙ sym (rest_outcome-no_end c script ready.between.no_end)
 
   -- ---- a look into the buffer
@@ -193,7 +193,7 @@ module _ {Hall Answer : Type 0} (p : Protocol Hall Answer) (orderly : IsOrderly 
       moved : (stage : Next) → waits_at stage c.waits ≡ 0 → rest_outcome p (going_to c stage) script ≡ rest_outcome p c script
       moved stage none =
           rest_outcome-no_end (going_to c stage) script between.no_end
-          ∙ ap (λ w. ahead p c script.cut (limit_input (p.input_limit - c.read) (input_by c.input_ended w script))) (none ∙ sym (ap (λ stage. waits_at stage c.waits) pending))
+          ∙ ap (λ w. ahead p c script.cut (limit_input (p.input_limit c.hall - c.read) (input_by c.input_ended w script))) (none ∙ sym (ap (λ stage. waits_at stage c.waits) pending))
           ∙ sym (rest_outcome-no_end c script between.no_end)
 
       done : (stop : Stop) → end_of false stop ≡ ending.Done → p.cut c.buffer ≡ NotYet → input_to_come p c script ≡ empty_input stop
@@ -202,12 +202,12 @@ module _ {Hall Answer : Type 0} (p : Protocol Hall Answer) (orderly : IsOrderly 
           rest_outcome-no_end c script between.no_end ∙ ap (ahead p c script.cut) is ∙ ahead-stopped c script.cut stop between not_yet
           ∙ ap (λ e. record { bytes = []; end = e }) is_done)
 
-      by_input : (ended full : Bool) → ended ≡ c.input_ended → full ≡ nat_le p.input_limit c.read → NotYet ≡ p.cut c.buffer
+      by_input : (ended full : Bool) → ended ≡ c.input_ended → full ≡ nat_le (p.input_limit c.hall) c.read → NotYet ≡ p.cut c.buffer
           → rest_outcome p (if ended || full then ending_as c ending.Done else going_to c next.Read) script ≡ rest_outcome p c script
       by_input ended true e f none = by_ended ended
         where
-          left : p.input_limit - c.read ≡ 0
-          left = let le = leb-true p.input_limit c.read (sym f) in omega arith
+          left : p.input_limit c.hall - c.read ≡ 0
+          left = let le = leb-true (p.input_limit c.hall) c.read (sym f) in omega arith
 
           all : rest_outcome p (ending_as c ending.Done) script ≡ rest_outcome p c script
           all = done at_limit refl (sym none)
@@ -217,35 +217,35 @@ module _ {Hall Answer : Type 0} (p : Protocol Hall Answer) (orderly : IsOrderly 
           by_ended true = all
           by_ended false = all
       by_input true false e f none = done at_end refl (sym none)
-          (let lt = leb-false p.input_limit c.read (sym f) in
-          ap (λ t. limit_input (p.input_limit - c.read) (input_by t (waits_at c.pending c.waits) script)) (sym e) ∙ limited-stopped (p.input_limit - c.read) at_end (omega arith))
+          (let lt = leb-false (p.input_limit c.hall) c.read (sym f) in
+          ap (λ t. limit_input (p.input_limit c.hall - c.read) (input_by t (waits_at c.pending c.waits) script)) (sym e) ∙ limited-stopped (p.input_limit c.hall - c.read) at_end (omega arith))
       by_input false false e f none = moved next.Read ready.no_waits
 
       by_cut : (cut : Cut) → cut ≡ p.cut c.buffer → rest_outcome p (after_parse p c cut) script ≡ rest_outcome p c script
       by_cut (Whole len) e = moved next.Look refl
       by_cut TooLong e = moved next.Look refl
-      by_cut NotYet e = by_input c.input_ended (nat_le p.input_limit c.read) refl refl e
+      by_cut NotYet e = by_input c.input_ended (nat_le (p.input_limit c.hall) c.read) refl refl e
 
   -- nothing is left to write, and no more is answered
   ahead-sent : (c : ConnCoreState Hall) (cut : Option ℕ) (input : Input) → is_sent c.parts ≡ true → c.closes ≡ true
       → ahead p c cut input ≡ record { bytes = []; end = ending.Done }
   ahead-sent c cut input sent closes =
-      ap (λ r. cut_off cut (r ++ texts_of p (later_unless c.closes (p.answers (p.answer_limit - c.answered) c.hall (c.buffer ++ input.bytes))))
-      (end_of (c.closes || is_closed p (later_unless c.closes (p.answers (p.answer_limit - c.answered) c.hall (c.buffer ++ input.bytes)))) input.stop))
+      ap (λ r. cut_off cut (r ++ texts_of p (later_unless c.closes (p.answers (p.answer_limit c.hall - c.answered) c.hall (c.buffer ++ input.bytes))))
+      (end_of (c.closes || is_closed p (later_unless c.closes (p.answers (p.answer_limit c.hall - c.answered) c.hall (c.buffer ++ input.bytes)))) input.stop))
       (nothing-rest c.parts sent)
-      ∙ ap (λ t. cut_off cut ([] ++ texts_of p (later_unless t (p.answers (p.answer_limit - c.answered) c.hall (c.buffer ++ input.bytes))))
-      (end_of (t || is_closed p (later_unless t (p.answers (p.answer_limit - c.answered) c.hall (c.buffer ++ input.bytes)))) input.stop)) closes
+      ∙ ap (λ t. cut_off cut ([] ++ texts_of p (later_unless t (p.answers (p.answer_limit c.hall - c.answered) c.hall (c.buffer ++ input.bytes))))
+      (end_of (t || is_closed p (later_unless t (p.answers (p.answer_limit c.hall - c.answered) c.hall (c.buffer ++ input.bytes)))) input.stop)) closes
       ∙ cut_off-nil cut ending.Done
 
   -- an answer comes first of what is ahead
   ahead-answer : (c : ConnCoreState Hall) (cut : Option ℕ) (answer : Answer) (rest : List ℕ) (input : Input) → IsBetween p c
-      → p.answers (p.answer_limit - c.answered) c.hall (c.buffer ++ input.bytes)
-      ≡ answers_from p answer (p.answers (p.answer_limit - (c.answered + 1)) c.hall (rest ++ input.bytes))
+      → p.answers (p.answer_limit c.hall - c.answered) c.hall (c.buffer ++ input.bytes)
+      ≡ answers_from p answer (p.answers (p.answer_limit c.hall - (c.answered + 1)) c.hall (rest ++ input.bytes))
       → ahead p (with_answer p c answer rest) cut input ≡ ahead p c cut input
   ahead-answer c cut answer rest input between first =
-      let later = p.answers (p.answer_limit - (c.answered + 1)) c.hall (rest ++ input.bytes) in
-      let all : later_unless c.closes (p.answers (p.answer_limit - c.answered) c.hall (c.buffer ++ input.bytes)) ≡ answers_from p answer later =
-      ap (λ t. later_unless t (p.answers (p.answer_limit - c.answered) c.hall (c.buffer ++ input.bytes))) between.goes_on ∙ first in
+      let later = p.answers (p.answer_limit c.hall - (c.answered + 1)) c.hall (rest ++ input.bytes) in
+      let all : later_unless c.closes (p.answers (p.answer_limit c.hall - c.answered) c.hall (c.buffer ++ input.bytes)) ≡ answers_from p answer later =
+      ap (λ t. later_unless t (p.answers (p.answer_limit c.hall - c.answered) c.hall (c.buffer ++ input.bytes))) between.goes_on ∙ first in
       ap (λ o. cut_off cut o (end_of (p.closes answer || is_closed p (later_unless (p.closes answer) later)) input.stop)) refl
       ∙ ap (λ r. cut_off cut (r ++ texts_of p (answers_from p answer later)) (end_of (false || is_closed p (answers_from p answer later)) input.stop)) (sym (nothing-rest c.parts between.nothing))
       ∙ ap (λ t. cut_off cut (unsent_bytes c.parts ++ texts_of p (answers_from p answer later)) (end_of (t || is_closed p (answers_from p answer later)) input.stop)) (sym between.goes_on)
@@ -258,15 +258,15 @@ module _ {Hall Answer : Type 0} (p : Protocol Hall Answer) (orderly : IsOrderly 
       between = ready.between
 
       input : Input
-      input = limit_input (p.input_limit - c.read) (input_by c.input_ended 0 script)
+      input = limit_input (p.input_limit c.hall - c.read) (input_by c.input_ended 0 script)
 
       same_input : input_to_come p c script ≡ input
-      same_input = ap (λ stage. limit_input (p.input_limit - c.read) (input_by c.input_ended (waits_at stage c.waits) script)) pending
+      same_input = ap (λ stage. limit_input (p.input_limit c.hall - c.read) (input_by c.input_ended (waits_at stage c.waits) script)) pending
 
       -- whatever is next
       answered : (asked : Asked) (rest : List ℕ)
-          → p.answers (p.answer_limit - c.answered) c.hall (c.buffer ++ input.bytes)
-          ≡ answers_from p (p.answer c.hall asked (is_last p c)) (p.answers (p.answer_limit - (c.answered + 1)) c.hall (rest ++ input.bytes))
+          → p.answers (p.answer_limit c.hall - c.answered) c.hall (c.buffer ++ input.bytes)
+          ≡ answers_from p (p.answer c.hall asked (is_last p c)) (p.answers (p.answer_limit c.hall - (c.answered + 1)) c.hall (rest ++ input.bytes))
           → rest_outcome p (after_answer p c (p.answer c.hall asked (is_last p c)) rest) script ≡ rest_outcome p c script
       answered asked rest first =
           by_bytes (p.is_empty (p.answer c.hall asked (is_last p c))) (p.closes (p.answer c.hall asked (is_last p c))) refl refl
@@ -281,7 +281,7 @@ module _ {Hall Answer : Type 0} (p : Protocol Hall Answer) (orderly : IsOrderly 
           goes_on stage none =
               rest_outcome-no_end (record (with_answer p c (p.answer c.hall asked (is_last p c)) rest) { pending = stage }) script between.no_end
               ∙ ap (λ w. ahead p (with_answer p c (p.answer c.hall asked (is_last p c)) rest) script.cut
-              (limit_input (p.input_limit - c.read) (input_by c.input_ended w script))) none
+              (limit_input (p.input_limit c.hall - c.read) (input_by c.input_ended w script))) none
               ∙ same
 
           by_bytes : (empty closes : Bool) → empty ≡ p.is_empty (p.answer c.hall asked (is_last p c)) → closes ≡ p.closes (p.answer c.hall asked (is_last p c))
@@ -295,8 +295,8 @@ module _ {Hall Answer : Type 0} (p : Protocol Hall Answer) (orderly : IsOrderly 
 
       by_cut : (cut : Cut) → cut ≡ p.cut c.buffer → rest_outcome p (after_look p c cut) script ≡ rest_outcome p c script
       by_cut (Whole len) e = answered (request (take len c.buffer)) (drop len c.buffer)
-          (ap (λ b. p.answers (p.answer_limit - c.answered) c.hall (b ++ input.bytes)) (sym (take-append-drop len c.buffer))
-          ∙ ap (p.answers (p.answer_limit - c.answered) c.hall) (append_assoc (take len c.buffer) (drop len c.buffer) input.bytes)
+          (ap (λ b. p.answers (p.answer_limit c.hall - c.answered) c.hall (b ++ input.bytes)) (sym (take-append-drop len c.buffer))
+          ∙ ap (p.answers (p.answer_limit c.hall - c.answered) c.hall) (append_assoc (take len c.buffer) (drop len c.buffer) input.bytes)
           ∙ first-whole p orderly c between.more len (drop len c.buffer ++ input.bytes) (sym e))
       by_cut TooLong e = answered too_long [] (first-refused p orderly c between.more input.bytes (sym e))
       by_cut NotYet e = absurd (ready.whole (sym e))
@@ -307,7 +307,7 @@ module _ {Hall Answer : Type 0} (p : Protocol Hall Answer) (orderly : IsOrderly 
   ahead-wrote : (c : ConnCoreState Hall) (cut : Option ℕ) (count : ℕ) (input : Input) → count ≤ length (front_of c.parts) → FitsCut cut count
       → with_written (take count (front_of c.parts)) (ahead p (record c { parts = after_sending count c.parts }) (left_of_limit cut count) input) ≡ ahead p c cut input
   ahead-wrote c cut count input le fits =
-      let later = later_unless c.closes (p.answers (p.answer_limit - c.answered) c.hall (c.buffer ++ input.bytes)) in
+      let later = later_unless c.closes (p.answers (p.answer_limit c.hall - c.answered) c.hall (c.buffer ++ input.bytes)) in
       let end = end_of (c.closes || is_closed p later) input.stop in
       cut_off-append cut (take count (front_of c.parts)) (unsent_bytes (after_sending count c.parts) ++ texts_of p later) count end
       (omega (arith, length-take count (front_of c.parts))) fits
@@ -323,26 +323,26 @@ module _ {Hall Answer : Type 0} (p : Protocol Hall Answer) (orderly : IsOrderly 
       front = take count (front_of c.parts)
 
       input : Input
-      input = limit_input (p.input_limit - c.read) (input_by c.input_ended 0 script)
+      input = limit_input (p.input_limit c.hall - c.read) (input_by c.input_ended 0 script)
 
       same_input : input_to_come p c script ≡ input
-      same_input = ap (λ stage. limit_input (p.input_limit - c.read) (input_by c.input_ended (waits_at stage c.waits) script)) pending
+      same_input = ap (λ stage. limit_input (p.input_limit c.hall - c.read) (input_by c.input_ended (waits_at stage c.waits) script)) pending
 
       goes_on : (stage : Next) → waits_at stage 0 ≡ 0
           → with_written front (rest_outcome p (record c { parts = after_sending count c.parts; written = c.written + count; waits = 0; pending = stage }) now) ≡ rest_outcome p c script
       goes_on stage none =
           ap (with_written front) (
           rest_outcome-no_end (record c { parts = after_sending count c.parts; written = c.written + count; waits = 0; pending = stage }) now ready.no_end
-          ∙ ap (λ (s : Script). ahead p (record c { parts = after_sending count c.parts }) s.cut (limit_input (p.input_limit - c.read) (input_by c.input_ended (waits_at stage 0) s))) is
+          ∙ ap (λ (s : Script). ahead p (record c { parts = after_sending count c.parts }) s.cut (limit_input (p.input_limit c.hall - c.read) (input_by c.input_ended (waits_at stage 0) s))) is
           ∙ ap (λ w. ahead p (record c { parts = after_sending count c.parts }) (left_of_limit script.cut count)
-          (limit_input (p.input_limit - c.read) (input_by c.input_ended w (record script { cut = left_of_limit script.cut count })))) none
+          (limit_input (p.input_limit c.hall - c.read) (input_by c.input_ended w (record script { cut = left_of_limit script.cut count })))) none
           ∙ ap (ahead p (record c { parts = after_sending count c.parts }) (left_of_limit script.cut count)) (by_ended c.input_ended))
           ∙ ahead-wrote c script.cut count input le fits
           ∙ ap (ahead p c script.cut) (sym same_input)
           ∙ sym (rest_outcome-no_end c script ready.no_end)
         where
-          by_ended : (ended : Bool) → limit_input (p.input_limit - c.read) (input_by ended 0 (record script { cut = left_of_limit script.cut count }))
-              ≡ limit_input (p.input_limit - c.read) (input_by ended 0 script)
+          by_ended : (ended : Bool) → limit_input (p.input_limit c.hall - c.read) (input_by ended 0 (record script { cut = left_of_limit script.cut count }))
+              ≡ limit_input (p.input_limit c.hall - c.read) (input_by ended 0 script)
           by_ended true = refl
           by_ended false = refl
 
@@ -368,7 +368,7 @@ module _ {Hall Answer : Type 0} (p : Protocol Hall Answer) (orderly : IsOrderly 
       by_cut (Some (suc limit)) e answer = cc
       by_cut (Some zero) e answer =
           let input = input_to_come p c script in
-          let later = later_unless c.closes (p.answers (p.answer_limit - c.answered) c.hall (c.buffer ++ input.bytes)) in
+          let later = later_unless c.closes (p.answers (p.answer_limit c.hall - c.answered) c.hall (c.buffer ++ input.bytes)) in
           let end = end_of (c.closes || is_closed p later) input.stop in
           let some = something-rest c.parts ready.something in
           sym (rest_outcome-no_end c script ready.no_end
@@ -516,12 +516,12 @@ module _ {Hall Answer : Type 0} (p : Protocol Hall Answer) (orderly : IsOrderly 
   -- a connection that was opened comes to the outcome
   rest_outcome-opened : (hall : Hall) (script : Script) → rest_outcome p (going_to (core_before_open hall) next.Read) script ≡ outcome_of p hall script
   rest_outcome-opened hall script =
-      let input = limit_input p.input_limit (input_from 0 script.items) in
-      let given : p.answers_to hall input.bytes ≡ p.answers p.answer_limit hall input.bytes =
-      orderly.all hall input.bytes ∙ ap (p.answers p.answer_limit hall) (take_all p.input_limit input.bytes (limited-few p.input_limit (input_from 0 script.items))) in
-      ap (λ n. ahead p (going_to (core_before_open hall) next.Read) script.cut (limit_input n (input_from 0 script.items))) (let whole : p.input_limit - 0 ≡ p.input_limit = omega arith in whole)
+      let input = limit_input (p.input_limit hall) (input_from 0 script.items) in
+      let given : p.answers_to hall input.bytes ≡ p.answers (p.answer_limit hall) hall input.bytes =
+      orderly.all hall input.bytes ∙ ap (p.answers (p.answer_limit hall) hall) (take_all (p.input_limit hall) input.bytes (limited-few (p.input_limit hall) (input_from 0 script.items))) in
+      ap (λ n. ahead p (going_to (core_before_open hall) next.Read) script.cut (limit_input n (input_from 0 script.items))) (let whole : p.input_limit hall - 0 ≡ p.input_limit hall = omega arith in whole)
       ∙ ap (λ n. cut_off script.cut (texts_of p (p.answers n hall input.bytes)) (end_of (is_closed p (p.answers n hall input.bytes)) input.stop))
-      (let whole : p.answer_limit - 0 ≡ p.answer_limit = omega arith in whole)
+      (let whole : p.answer_limit hall - 0 ≡ p.answer_limit hall = omega arith in whole)
       ∙ ap (λ given. cut_off script.cut (texts_of p given) (end_of (is_closed p given) input.stop)) (sym given)
 
   -- what it comes to is what it has come to, once it has ended

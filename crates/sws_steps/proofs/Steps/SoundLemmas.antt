@@ -53,7 +53,7 @@ module _ {Hall Answer : Type 0} (p : Protocol Hall Answer) (orderly : IsOrderly 
 
   -- a piece was taken
   progress_took : (c : ConnCoreState Hall) (taken sent piece : List ℕ) (count waits : ℕ) (pending : Next) → length piece ≡ count
-      → c.read + count ≤ p.input_limit → Progress p c taken sent
+      → c.read + count ≤ p.input_limit c.hall → Progress p c taken sent
       → Progress p (record c { buffer = c.buffer ++ piece; read = c.read + count; waits = waits; pending = pending }) (taken ++ piece) sent
   progress_took c taken sent piece count waits pending long few k = record {
     consumed = k.consumed;
@@ -121,8 +121,8 @@ module _ {Hall Answer : Type 0} (p : Protocol Hall Answer) (orderly : IsOrderly 
   -- one more request was answered: the bytes of it left the buffer, and it is answered first,
   -- whatever comes behind it
   progress_answered : (c : ConnCoreState Hall) (taken sent head rest : List ℕ) (answer : Answer) → IsBetween p c → c.buffer ≡ head ++ rest
-      → ((more : List ℕ) → p.answers (p.answer_limit - c.answered) c.hall (head ++ more)
-      ≡ answers_from p answer (p.answers (p.answer_limit - (c.answered + 1)) c.hall more))
+      → ((more : List ℕ) → p.answers (p.answer_limit c.hall - c.answered) c.hall (head ++ more)
+      ≡ answers_from p answer (p.answers (p.answer_limit c.hall - (c.answered + 1)) c.hall more))
       → length (text_of p answer) ≤ p.text_limit
       → Progress p c taken sent → Progress p (with_answer p c answer rest) taken sent
   progress_answered c taken sent head rest answer between split first few k = record {
@@ -132,10 +132,10 @@ module _ {Hall Answer : Type 0} (p : Protocol Hall Answer) (orderly : IsOrderly 
     sent_is = ap (λ s. s ++ text_of p answer) all_sent ∙ sym (texts-snoc k.given answer);
     count = let many = k.count in omega (arith, length-append k.given (answer ∷ []));
     last = inr (record { earlier = k.given; answer = answer; given_is = refl; note_is = refl; left = omega arith });
-    given_first = λ more. ap (p.answers p.answer_limit c.hall) (append_assoc k.consumed head more) ∙ k.given_first (head ++ more)
-        ∙ ap (λ t. k.given ++ later_unless t (p.answers (p.answer_limit - c.answered) c.hall (head ++ more))) between.goes_on
+    given_first = λ more. ap (p.answers (p.answer_limit c.hall) c.hall) (append_assoc k.consumed head more) ∙ k.given_first (head ++ more)
+        ∙ ap (λ t. k.given ++ later_unless t (p.answers (p.answer_limit c.hall - c.answered) c.hall (head ++ more))) between.goes_on
         ∙ ap (λ l. k.given ++ l) (first more)
-        ∙ sym (append_assoc k.given (answer ∷ []) (later_unless (p.closes answer) (p.answers (p.answer_limit - (c.answered + 1)) c.hall more)));
+        ∙ sym (append_assoc k.given (answer ∷ []) (later_unless (p.closes answer) (p.answers (p.answer_limit c.hall - (c.answered + 1)) c.hall more)));
     closed_is = λ closes. closed-snoc k.given answer closes;
     read_is = k.read_is;
     written_is = k.written_is;

@@ -19,7 +19,6 @@ use Rattle.sws_link.specs.declared.world.World.{Ghosts as WorldWords}
 use Rattle.sws_steps.specs.declared.Next.{Next}
 use Rattle.sws_steps.specs.declared.Next.TheVariants as next
 use Rattle.sws_steps.specs.declared.talk.Talk.{Ghosts as TalkWords}
-use Rattle.sws_conn.specs.Responses.{input_limit}
 use Rattle.sws_conn.specs.Talks.{TalkView, unopened_view, reported_end, HasServed, due, path_to_come}
 use Rattle.sws_conn.specs.Conn.{end_at}
 use Rattle.sws_handlers.specs.declared.ended.Served.{Served}
@@ -157,9 +156,9 @@ pub record ConnKept {W L T G H : Type 0} (x : WorldWords W L) (l : LinkWords L) 
   pub end : s.end ≡ reported_end (y.view_of seat.talk)
   pub closed : IsSome s.end ↔ ((y.view_of seat.talk).pending ≡ next.Nothing)
   pub read : s.read ≡ (y.view_of seat.talk).read
-  pub few_read : s.read ≤ input_limit
+  pub few_read : s.read ≤ y.input_limit hall
   pub written : s.written ≡ (y.view_of seat.talk).written
-  pub few_written : s.written < 2 ^ 40
+  pub few_written : s.written ≤ y.output_limit hall
   pub answered : s.answered ≡ (y.view_of seat.talk).lines
   pub stray : s.stray ≡ seat.stray
   pub serves : SeatServes x l y place seat
@@ -181,6 +180,7 @@ left_of : {W L T G H : Type 0} (x : WorldWords W L) (l : LinkWords L) (y : TalkW
     → (after ≡ before) ⊎ GotLink x l first i before after → ConnKept x l y hall first i trail after
 left_of {W} {L} {T} {G} {H} x l y hall first i trail place seat before after shows colour of_hall of_first of_trail serves given =
     let conn_is : conn_of place.colour ≡ i = omega (arith, colour) in
+    let hall_is : y.hall_of seat.talk ≡ hall = serves.hall_is ∙ of_hall in
     let view : TalkView = y.view_of seat.talk in
     let link_by : (o : Option L) → y.link_of seat.talk ≡ o → LinkLeft x l y hall first i o view = λ o is. link_left x l y hall first i place seat conn_is of_hall of_first o (subst (λ (k : Option L). ServedBy x l y place seat k) is serves.served) in
     elim given [
@@ -193,9 +193,9 @@ left_of {W} {L} {T} {G} {H} x l y hall first i trail place seat before after sho
         end = shows.end;
         closed = shows.closed;
         read = shows.read;
-        few_read = shows.few_read;
+        few_read = subst (λ (h : H). before.read ≤ y.input_limit h) hall_is shows.few_read;
         written = shows.written;
-        few_written = shows.few_written;
+        few_written = subst (λ (h : H). before.written ≤ y.output_limit h) hall_is shows.few_written;
         answered = shows.answered ∙ serves.answered;
         stray = shows.stray;
         serves = serves;
@@ -215,9 +215,9 @@ left_of {W} {L} {T} {G} {H} x l y hall first i trail place seat before after sho
         end = shows.end;
         closed = shows.closed;
         read = shows.read;
-        few_read = shows.few_read;
+        few_read = subst (λ (h : H). before.read ≤ y.input_limit h) hall_is shows.few_read;
         written = shows.written;
-        few_written = shows.few_written;
+        few_written = subst (λ (h : H). before.written ≤ y.output_limit h) hall_is shows.few_written;
         answered = shows.answered ∙ serves.answered;
         stray = shows.stray;
         serves = serves;

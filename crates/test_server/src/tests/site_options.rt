@@ -6,17 +6,24 @@ use std::process::Abort;
 use std::test::Fail;
 use sws_answer::{PathRoom, answer, ask};
 use sws_link::{Folder, SureFolder};
-use sws_site::{Site, SiteFault, SiteOptions};
+use sws_site::{Additions, Site, SiteFault, SiteOptions};
 
-const ALL: SiteOptions = SiteOptions {
-    removes_dot_segments: true,
-    knows_more_types: true,
-    sends_not_found_page: true,
-    redirects_to_folders: true,
-};
+/// The options of a site that does all that a site can, and to which nothing is added.
+fn all(alloc: Global) -> SiteOptions {
+    SiteOptions {
+        removes_dot_segments: true,
+        knows_more_types: true,
+        sends_not_found_page: true,
+        redirects_to_folders: true,
+        refuses_ambiguous: true,
+        answers: 1000,
+        input: 4_194_304,
+        added: Additions::none(alloc),
+    }
+}
 
 /// The site of these files with these options. Its date is that of the examples of RFC 9110.
-fn site_with(
+pub(super) fn site_with(
     alloc: Global,
     files: &[(&[u8], &[u8])],
     options: SiteOptions,
@@ -28,7 +35,7 @@ fn site_with(
 
 /// The site of these files that does all that a site can.
 fn site_with_all(alloc: Global, files: &[(&[u8], &[u8])]) -> Result<Site, SiteFault> {
-    site_with(alloc, files, ALL)
+    site_with(alloc, files, all(alloc))
 }
 
 /// The head of a request for a target.
@@ -124,7 +131,12 @@ fn more_types_are_known(rt: HostRuntime) -> Result<(), Fail> {
 }
 
 /// Whether the site answers this head with this response.
-fn is_sent(rt: &(impl AllocGlobal + Abort), site: &Site, head: &[u8], response: &[u8]) -> bool {
+pub(super) fn is_sent(
+    rt: &(impl AllocGlobal + Abort),
+    site: &Site,
+    head: &[u8],
+    response: &[u8],
+) -> bool {
     let mut room = PathRoom::new(rt.alloc()).expect(rt, "memory");
     let mut parts = answer(site, &ask(head), false, &mut room).parts;
     let mut sent = Vec::new(rt.alloc());
@@ -212,10 +224,10 @@ static NO_REDIRECTS: [&[u8]; 5] = [
 #[test]
 fn folders_are_redirected_to(rt: HostRuntime) {
     for &(head, response) in &REDIRECTS {
-        assert!(rt; is_sent_with(&rt, ALL, &FOLDERS, head, response));
+        assert!(rt; is_sent_with(&rt, all(rt.alloc()), &FOLDERS, head, response));
     }
     for head in &NO_REDIRECTS {
-        assert!(rt; is_sent_with(&rt, ALL, &FOLDERS, head, NOT_FOUND));
+        assert!(rt; is_sent_with(&rt, all(rt.alloc()), &FOLDERS, head, NOT_FOUND));
     }
 }
 
@@ -258,7 +270,7 @@ static LOST: [(&[u8], &[u8]); 6] = [
 #[test]
 fn a_page_tells_that_no_file_has_the_name(rt: HostRuntime) {
     for &(head, response) in &LOST {
-        assert!(rt; is_sent_with(&rt, ALL, &PAGES, head, response));
+        assert!(rt; is_sent_with(&rt, all(rt.alloc()), &PAGES, head, response));
     }
 }
 
@@ -271,7 +283,15 @@ static PLAIN: [&[u8]; 2] = [
 #[test]
 fn a_plain_site_has_neither(rt: HostRuntime) {
     for head in &PLAIN {
-        assert!(rt; is_sent_with(&rt, SiteOptions::plain(), &FOLDERS, head, NOT_FOUND));
-        assert!(rt; is_sent_with(&rt, SiteOptions::plain(), &PAGES, head, NOT_FOUND));
+        assert!(rt;
+            is_sent_with(
+                &rt,
+                SiteOptions::plain(rt.alloc()),
+                &FOLDERS,
+                head,
+                NOT_FOUND
+            )
+        );
+        assert!(rt; is_sent_with(&rt, SiteOptions::plain(rt.alloc()), &PAGES, head, NOT_FOUND));
     }
 }

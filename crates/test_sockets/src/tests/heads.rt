@@ -2,87 +2,140 @@
 ghost use Rattle.std.specs.Prelude.{◌≡◌, false, IfOk};
 
 use std::alloc::{AllocError, Global};
-use std::test::Fail;
 use sws_link::{Link, LinkRead, LinkWrite};
 use sws_net::{KeptLink, MemSocket};
 
+/// A call of a link, with what it answers, and what its socket has been sent by then.
+#[derive(Clone, Copy)]
+enum Call {
+    Write(&'static [u8], LinkWrite),
+    Read(LinkRead),
+    Sent(&'static [u8]),
+}
+
 /// A link whose peer sends three bytes, and whose sends take at most so many, the last of these
 /// first. It holds answers or doesn't.
-fn link_by(alloc: Global, rooms: &[usize], holds: bool) -> Result<KeptLink<MemSocket>, AllocError>
+fn link_of(alloc: Global, rooms: &[usize], holds: bool) -> Result<KeptLink<MemSocket>, AllocError>
     ensures { IfOk result (λ link. link.socket.is_shut ≡ false) }
 {
     let socket = MemSocket::new(alloc, b"abc".to_vec(alloc)?, rooms.to_vec(alloc)?);
     Ok(KeptLink::new(alloc, socket, holds))
 }
 
-/// One that holds none.
-fn link_of(alloc: Global, rooms: &[usize]) -> Result<KeptLink<MemSocket>, AllocError>
-    ensures { IfOk result (λ link. link.socket.is_shut ≡ false) }
+/// Makes a call, and says whether it answers so.
+fn answers(link: &mut KeptLink<MemSocket>, call: Call) -> bool
+    requires { link.old.socket.is_shut ≡ false }
+    ensures { link.new.socket.is_shut ≡ false }
 {
-    link_by(alloc, rooms, false)
+    match call {
+        Call::Write(bytes, answer) if !bytes.is_empty() => link.write(bytes) == answer,
+        Call::Write(..) => false,
+        Call::Read(answer) => link.read(&mut [0; 8]) == answer,
+        Call::Sent(bytes) => link.socket().sent() == bytes,
+    }
 }
 
-/// A head waits for its body, and both go by one call.
-#[test]
-fn a_head_goes_with_its_body(rt: HostRuntime) -> Result<(), Fail> {
-    let mut link = link_of(rt.alloc(), &[])?;
-    assert_eq!(rt; link.write(b"head "), LinkWrite::Wrote(5));
-    assert_eq!(rt; link.socket().sent(), b"".as_slice());
-    assert_eq!(rt; link.write(b"body"), LinkWrite::Wrote(4));
-    assert_eq!(rt; link.socket().sent(), b"head body".as_slice());
-    Ok(())
+/// Whether all of these calls answer so.
+fn plays(link: &mut KeptLink<MemSocket>, calls: &[Call]) -> bool
+    requires { link.old.socket.is_shut ≡ false }
+    ensures { link.new.socket.is_shut ≡ false }
+{
+    'calls: for call in calls {
+        if !answers(link, *call) {
+            return false;
+        }
+    }
+    true
 }
 
-/// Of a body what the socket took counts, and of a head that goes in two parts none of the body.
-#[test]
-fn what_the_socket_took_counts(rt: HostRuntime) -> Result<(), Fail> {
-    let mut link = link_of(rt.alloc(), &[0, 3, 2])?;
-    assert_eq!(rt; link.write(b"head "), LinkWrite::Wrote(5));
-    assert_eq!(rt; link.write(b"body"), LinkWrite::NotReady);
-    assert_eq!(rt; link.socket().sent(), b"he".as_slice());
-    assert_eq!(rt; link.write(b"body"), LinkWrite::NotReady);
-    assert_eq!(rt; link.socket().sent(), b"head ".as_slice());
-    assert_eq!(rt; link.write(b"body"), LinkWrite::NotReady);
-    assert_eq!(rt; link.write(b"body"), LinkWrite::Wrote(4));
-    assert_eq!(rt; link.socket().sent(), b"head body".as_slice());
-    Ok(())
-}
-
-/// A read hands what is kept on first, and reads only once all of it went.
-#[test]
-fn a_read_hands_on_what_is_kept(rt: HostRuntime) -> Result<(), Fail> {
-    let mut link = link_of(rt.alloc(), &[2, 3])?;
-    let mut room = [0; 8];
-    assert_eq!(rt; link.write(b"head "), LinkWrite::Wrote(5));
-    assert_eq!(rt; link.read(&mut room), LinkRead::NotReady);
-    assert_eq!(rt; link.socket().sent(), b"hea".as_slice());
-    assert_eq!(rt; link.read(&mut room), LinkRead::Took(3));
-    assert_eq!(rt; link.socket().sent(), b"head ".as_slice());
-    assert_eq!(rt; link.read(&mut room), LinkRead::End);
-    Ok(())
-}
-
-/// What is kept at the end goes with it, also where the socket is full.
-#[test]
-fn the_end_hands_on_what_is_kept(rt: HostRuntime) -> Result<(), Fail> {
-    let mut link = link_of(rt.alloc(), &[0])?;
-    assert_eq!(rt; link.write(b"head "), LinkWrite::Wrote(5));
+/// Whether a link of these rooms answers these calls so, and its end, with which this goes, is told.
+fn link_plays(
+    alloc: Global,
+    rooms: &[usize],
+    holds: bool,
+    calls: &[Call],
+    last: &[u8],
+) -> Result<bool, AllocError> {
+    let mut link = link_of(alloc, rooms, holds)?;
+    let is_played = plays(&mut link, calls);
     link.shut();
-    assert!(rt; link.socket().is_shut());
-    assert_eq!(rt; link.socket().last(), b"head ".as_slice());
-    Ok(())
+    Ok(is_played && link.socket().is_shut() && link.socket().last() == last)
 }
 
-/// Answers that are held go together, with the read behind them.
+/// What is called, the rooms of the socket, whether answers are held, the calls, and what goes with
+/// the end.
+static ROWS: [(&str, &[usize], bool, &[Call], &[u8]); 5] = [
+    (
+        "a head goes with its body",
+        &[],
+        false,
+        &[
+            Call::Write(b"head ", LinkWrite::Wrote(5)),
+            Call::Sent(b""),
+            Call::Write(b"body", LinkWrite::Wrote(4)),
+            Call::Sent(b"head body"),
+        ],
+        b"",
+    ),
+    (
+        "of a body what the socket took counts, and of a head that goes in two parts none of it",
+        &[0, 3, 2],
+        false,
+        &[
+            Call::Write(b"head ", LinkWrite::Wrote(5)),
+            Call::Write(b"body", LinkWrite::NotReady),
+            Call::Sent(b"he"),
+            Call::Write(b"body", LinkWrite::NotReady),
+            Call::Sent(b"head "),
+            Call::Write(b"body", LinkWrite::NotReady),
+            Call::Write(b"body", LinkWrite::Wrote(4)),
+            Call::Sent(b"head body"),
+        ],
+        b"",
+    ),
+    (
+        "a read hands what is kept on first, and reads only once all of it went",
+        &[2, 3],
+        false,
+        &[
+            Call::Write(b"head ", LinkWrite::Wrote(5)),
+            Call::Read(LinkRead::NotReady),
+            Call::Sent(b"hea"),
+            Call::Read(LinkRead::Took(3)),
+            Call::Sent(b"head "),
+            Call::Read(LinkRead::End),
+        ],
+        b"",
+    ),
+    (
+        "what is kept at the end goes with it, also where the socket is full",
+        &[0],
+        false,
+        &[Call::Write(b"head ", LinkWrite::Wrote(5))],
+        b"head ",
+    ),
+    (
+        "answers that are held go together, with the read behind them",
+        &[],
+        true,
+        &[
+            Call::Write(b"head ", LinkWrite::Wrote(5)),
+            Call::Write(b"body ", LinkWrite::Wrote(5)),
+            Call::Write(b"more", LinkWrite::Wrote(4)),
+            Call::Sent(b""),
+            Call::Read(LinkRead::Took(3)),
+            Call::Sent(b"head body more"),
+        ],
+        b"",
+    ),
+];
+
 #[test]
-fn answers_that_are_held_go_together(rt: HostRuntime) -> Result<(), Fail> {
-    let mut link = link_by(rt.alloc(), &[], true)?;
-    let mut room = [0; 8];
-    assert_eq!(rt; link.write(b"head "), LinkWrite::Wrote(5));
-    assert_eq!(rt; link.write(b"body "), LinkWrite::Wrote(5));
-    assert_eq!(rt; link.write(b"more"), LinkWrite::Wrote(4));
-    assert_eq!(rt; link.socket().sent(), b"".as_slice());
-    assert_eq!(rt; link.read(&mut room), LinkRead::Took(3));
-    assert_eq!(rt; link.socket().sent(), b"head body more".as_slice());
-    Ok(())
+fn a_link_keeps_heads_and_held_answers_back(rt: HostRuntime) {
+    for &(what, rooms, holds, calls, last) in &ROWS {
+        assert!(rt;
+            link_plays(rt.alloc(), rooms, holds, calls, last) == Ok(true),
+            "{what}"
+        );
+    }
 }

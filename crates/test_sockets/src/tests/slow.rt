@@ -1,12 +1,12 @@
 //! Clients that read slowly, send while they don't read, or send what nobody reads.
-ghost use Rattle.std.specs.Prelude.{◌≡◌, IfSome};
+ghost use Rattle.std.specs.Prelude.{◌≡◌};
 ghost use Rattle.sws_net.specs.Initial.{IsOpen};
 
-use super::tcp::{client, next_link, open_somewhere, poll_some, read_some};
-use std::alloc::{AllocError, Global};
+use super::tcp::{
+    client_of, gets_all, is_refused, next_link, opened, poll_until, reads_once, send, writes,
+};
 use std::io::{self, ErrorKind, Read, Write};
 use std::net::{Shutdown, TcpStream};
-use std::test::Fail;
 use sws_link::{Link, LinkRead, LinkWrite, Polled, World};
 use sws_net::{TcpLink, TcpWorld};
 
@@ -33,54 +33,60 @@ fn write_some(link: &mut TcpLink, bytes: &[u8], from: usize) -> Option<usize>
 }
 
 /// Takes a piece of what has come, and answers how much of it is as it is to be.
-fn take_some(mut client: &TcpStream, wanted: u8) -> io::Result<usize> {
+fn take_some(mut client: &TcpStream, wanted: u8) -> Option<usize> {
     let mut room = [0; 65_536];
-    let count = client.read(&mut room)?;
-    let piece = room.get(..count).unwrap_or(&[]);
-    if piece.iter().any(|byte| *byte != wanted) {
-        return Err(io::Error::from(ErrorKind::InvalidData));
-    }
-    Ok(count)
+    let count = client.read(&mut room).ok()?;
+    let piece = room.get(..count)?;
+    piece.iter().all(|byte| *byte == wanted).then_some(count)
 }
 
-/// A large body.
-fn large_body(alloc: Global) -> Result<Vec<u8>, AllocError> {
-    Vec::from_elem(alloc, b'b', LARGE)
-}
-
-/// A client that reads a piece each time the link takes no more gets all of a large body.
-#[test]
-fn a_slow_reader_gets_a_large_body(rt: HostRuntime) -> Result<(), Fail> {
-    let mut world = TcpWorld::new(&rt)?;
-    let Some(port) = open_somewhere(&mut world, 1) else {
-        panic!(rt; "no port is free");
-    };
-    let client = client(&rt, port)?;
-    let Some(mut link) = next_link(&mut world) else {
-        panic!(rt; "no link");
-    };
-    let body = large_body(rt.alloc())?;
+/// Writes a body, while the client reads a piece each time the link takes no more, and answers how much
+/// it has read.
+fn take_while_written(link: &mut TcpLink, client: &TcpStream, body: &[u8]) -> Option<usize>
+    requires { IsOpen link.old }
+    ensures { IsOpen link.new }
+{
     let mut sent = 0;
     let mut got = 0usize;
     'pieces: for _ in 0..PIECES {
-        let Some(now) = write_some(&mut link, &body, sent) else {
+        let Some(now) = write_some(link, body, sent) else {
             break;
         };
         if now == sent {
-            got = got.saturating_add(take_some(&client, b'b')?);
+            got = got.saturating_add(take_some(client, b'b')?);
         }
         sent = now;
     }
-    link.shut();
+    Some(got)
+}
+
+/// How much the client reads until the connection ends.
+fn take_rest(client: &TcpStream) -> Option<usize> {
+    let mut got = 0usize;
     for _ in 0..PIECES {
-        let count = take_some(&client, b'b')?;
+        let count = take_some(client, b'b')?;
         if count == 0 {
             break;
         }
         got = got.saturating_add(count);
     }
-    assert_eq!(rt; got, LARGE);
-    Ok(())
+    Some(got)
+}
+
+/// How much of a large body a client gets that reads a piece each time the link takes no more.
+fn got_slowly(rt: &HostRuntime) -> Option<usize> {
+    let (mut world, port) = opened(rt, 1)?;
+    let client = client_of(rt, port, b"")?;
+    let mut link = next_link(&mut world)?;
+    let body = b"b".repeat(rt.alloc(), LARGE).ok()?;
+    let got = take_while_written(&mut link, &client, &body)?;
+    link.shut();
+    Some(got.saturating_add(take_rest(&client)?))
+}
+
+#[test]
+fn a_slow_reader_gets_a_large_body(rt: HostRuntime) {
+    assert!(rt; got_slowly(&rt) == Some(LARGE));
 }
 
 /// Fills the link, so that it waits to write.
@@ -95,28 +101,34 @@ fn fill(link: &mut TcpLink, piece: &[u8])
     }
 }
 
-/// What a client sends while it doesn't read is no sign of life for a link that waits to write.
-#[test]
-fn what_is_sent_wakes_no_link_that_waits_to_write(rt: HostRuntime) -> Result<(), Fail> {
-    let mut world = TcpWorld::new(&rt)?;
-    let Some(port) = open_somewhere(&mut world, 1) else {
-        panic!(rt; "no port is free");
-    };
-    let client = client(&rt, port)?;
-    let Some(mut link) = next_link(&mut world) else {
-        panic!(rt; "no link");
-    };
-    fill(&mut link, &[b'b'; 65_536]);
+/// How often the first link is named as ready, where its client sends a byte each time.
+fn named(world: &mut TcpWorld<'_>, client: &TcpStream) -> Option<u32> {
     let mut named = 0u32;
     for _ in 0..40 {
-        (&client).write_all(b"x")?;
+        send(client, b"x")?;
         if world.poll(&[0]) == Polled::Ready(0) {
             named = named.saturating_add(1);
         }
     }
-    // It may have shown before it was full that it would take bytes.
-    assert!(rt; named <= 1);
-    Ok(())
+    Some(named)
+}
+
+/// How often a link that waits to write is named as ready, where its client sends and doesn't read.
+fn named_while_full(rt: &HostRuntime) -> Option<u32> {
+    let (mut world, port) = opened(rt, 1)?;
+    let client = client_of(rt, port, b"")?;
+    let mut link = next_link(&mut world)?;
+    fill(&mut link, &[b'b'; 65_536]);
+    let count = named(&mut world, &client);
+    link.shut();
+    count
+}
+
+/// What a client sends while it doesn't read is no sign of life for a link that waits to write. It may
+/// have shown before it was full that it would take bytes.
+#[test]
+fn what_is_sent_wakes_no_link_that_waits_to_write(rt: HostRuntime) {
+    assert!(rt; matches!(named_while_full(&rt), Some(0 | 1)));
 }
 
 /// Sends so many bytes, while the world sees the connection out; it fails where the connection does.
@@ -139,93 +151,84 @@ fn send_all(mut client: &TcpStream, world: &mut TcpWorld<'_>, count: usize) -> i
     Err(io::Error::from(ErrorKind::TimedOut))
 }
 
-/// A client that is refused, and goes on sending a megabyte before it ends its side, gets the whole
-/// answer.
-#[test]
-fn a_refusal_reaches_a_client_that_sends(rt: HostRuntime) -> Result<(), Fail> {
-    let mut world = TcpWorld::new(&rt)?;
-    let Some(port) = open_somewhere(&mut world, 1) else {
-        panic!(rt; "no port is free");
-    };
-    let client = client(&rt, port)?;
-    (&client).write_all(b"POST / HTTP/1.1")?;
-    let Some(mut link) = next_link(&mut world) else {
-        panic!(rt; "no link");
-    };
-    let mut room = [0; 8];
-    assert_eq!(rt; read_some(&mut link, &mut room), LinkRead::Took(8));
-    assert_eq!(rt; link.write(b"refused"), LinkWrite::Wrote(7));
-    link.shut();
+/// Sends a megabyte, and ends its side.
+fn send_megabyte(client: &TcpStream, world: &mut TcpWorld<'_>) -> io::Result<()> {
     client.set_nonblocking(true)?;
-    send_all(&client, &mut world, 1024 * 1024)?;
+    send_all(client, world, 1024 * 1024)?;
     client.set_nonblocking(false)?;
-    client.shutdown(Shutdown::Write)?;
-    let mut back = Vec::new(rt.alloc());
-    (&client).read_to_end(&mut back)?;
-    assert!(rt; back.as_slice() == b"refused".as_slice());
-    Ok(())
+    client.shutdown(Shutdown::Write)
 }
 
-/// The next link, if it has come by now.
-fn take_link(world: &mut TcpWorld<'_>) -> Option<TcpLink>
-    ensures { IfSome result (λ link. IsOpen link) }
+/// Whether a client that is refused, and goes on sending a megabyte before it ends its side, gets the
+/// whole answer.
+fn is_refusal_got(rt: &HostRuntime) -> Option<bool> {
+    let (mut world, port) = opened(rt, 1)?;
+    let client = client_of(rt, port, b"POST / HTTP/1.1")?;
+    let link = next_link(&mut world)?;
+    let is_written = is_refused(link, b"refused");
+    send_megabyte(&client, &mut world).ok()?;
+    Some(is_written && gets_all(rt.alloc(), &client, b"refused"))
+}
+
+#[test]
+fn a_refusal_reaches_a_client_that_sends(rt: HostRuntime) {
+    assert!(rt; is_refusal_got(&rt) == Some(true));
+}
+
+/// Whether a client that asks is named of three, read and answered.
+fn is_answered(world: &mut TcpWorld<'_>, link: &mut TcpLink, mut client: &TcpStream) -> Option<bool>
+    requires { IsOpen link.old }
+    ensures { IsOpen link.new }
 {
-    next_link(world)
+    send(client, b"ask")?;
+    let is_named = poll_until(world, &[0, 1, 2], false) == Polled::Ready(2);
+    let is_read = reads_once(link, LinkRead::Took(3)) && reads_once(link, LinkRead::NotReady);
+    let is_written = writes(link, b"answer") && reads_once(link, LinkRead::NotReady);
+    let mut back = [0; 6];
+    client.read_exact(&mut back).ok()?;
+    Some(is_named && is_read && is_written && &back == b"answer")
+}
+
+/// How often a client is answered beside two that say nothing, of twenty times.
+fn answered_beside_two(rt: &HostRuntime) -> Option<u32> {
+    let (mut world, port) = opened(rt, 3)?;
+    let first = client_of(rt, port, b"")?;
+    let second = client_of(rt, port, b"")?;
+    let busy = client_of(rt, port, b"")?;
+    let (_one, _two) = (next_link(&mut world)?, next_link(&mut world)?);
+    let mut link = next_link(&mut world)?;
+    let mut count = 0u32;
+    'asks: for _ in 0..20 {
+        if is_answered(&mut world, &mut link, &busy)? {
+            count = count.saturating_add(1);
+        }
+    }
+    drop(first);
+    drop(second);
+    Some(count)
 }
 
 /// Two clients that say nothing keep nobody waiting: the third is named as soon as it sends.
 #[test]
-fn silent_clients_hold_up_nobody(rt: HostRuntime) -> Result<(), Fail> {
-    let mut world = TcpWorld::new(&rt)?;
-    let Some(port) = open_somewhere(&mut world, 3) else {
-        panic!(rt; "no port is free");
-    };
-    let first = client(&rt, port)?;
-    let second = client(&rt, port)?;
-    let busy = client(&rt, port)?;
-    let (Some(_one), Some(_two)) = (take_link(&mut world), take_link(&mut world)) else {
-        panic!(rt; "no silent links");
-    };
-    let Some(mut link) = take_link(&mut world) else {
-        panic!(rt; "no busy link");
-    };
-    let mut room = [0; 8];
-    'asks: for _ in 0..20 {
-        (&busy).write_all(b"ask")?;
-        assert_eq!(rt; poll_some(&mut world, &[0, 1, 2]), Polled::Ready(2));
-        assert_eq!(rt; link.read(&mut room), LinkRead::Took(3));
-        assert_eq!(rt; link.read(&mut room), LinkRead::NotReady);
-        assert_eq!(rt; link.write(b"answer"), LinkWrite::Wrote(6));
-        assert_eq!(rt; link.read(&mut room), LinkRead::NotReady);
-        let mut back = [0; 6];
-        (&busy).read_exact(&mut back)?;
-        assert!(rt; &back == b"answer");
-    }
-    drop(first);
-    drop(second);
-    Ok(())
+fn silent_clients_hold_up_nobody(rt: HostRuntime) {
+    assert!(rt; answered_beside_two(&rt) == Some(20));
 }
 
-/// A client that is gone before it is accepted is a link at its end, and the next one is served.
-#[test]
-fn a_client_that_is_gone_keeps_nobody_out(rt: HostRuntime) -> Result<(), Fail> {
-    let mut world = TcpWorld::new(&rt)?;
-    let Some(port) = open_somewhere(&mut world, 2) else {
-        panic!(rt; "no port is free");
-    };
-    drop(client(&rt, port)?);
-    let second = client(&rt, port)?;
-    (&second).write_all(b"abc")?;
-    let Some(mut gone) = take_link(&mut world) else {
-        panic!(rt; "no first link");
-    };
-    let Some(mut link) = take_link(&mut world) else {
-        panic!(rt; "no second link");
-    };
-    let mut room = [0; 8];
-    assert_eq!(rt; gone.read(&mut room), LinkRead::End);
+/// Whether a client that is gone before it is accepted is a link at its end, and the next one is served.
+fn is_next_served(rt: &HostRuntime) -> Option<bool> {
+    let (mut world, port) = opened(rt, 2)?;
+    drop(client_of(rt, port, b"")?);
+    let _second = client_of(rt, port, b"abc")?;
+    let mut gone = next_link(&mut world)?;
+    let mut link = next_link(&mut world)?;
+    let is_gone = reads_once(&mut gone, LinkRead::End);
     gone.shut();
-    assert_eq!(rt; link.read(&mut room), LinkRead::Took(3));
+    let is_read = reads_once(&mut link, LinkRead::Took(3));
     link.shut();
-    Ok(())
+    Some(is_gone && is_read)
+}
+
+#[test]
+fn a_client_that_is_gone_keeps_nobody_out(rt: HostRuntime) {
+    assert!(rt; is_next_served(&rt) == Some(true));
 }

@@ -1,10 +1,10 @@
 //! The adapters over readers and writers that do as the machine may.
 
+use std::alloc::Global;
 use std::cell::RefCell;
 use std::io::{self, ErrorKind, Read, Write};
-use std::test::Fail;
+use sws_files::{Output, StdSink, StdSource};
 use sws_link::{Got, Put, Sink, Source};
-use sws_net::{Output, StdSink, StdSource};
 
 /// What a writer has taken, in how many calls.
 #[derive(Drop)]
@@ -60,72 +60,121 @@ impl Read for Unsteady {
     }
 }
 
-#[test]
-fn small_pieces_are_written_together(rt: HostRuntime) -> Result<(), Fail> {
-    let taken = RefCell::new(Taken {
-        bytes: Vec::new(rt.alloc()),
-        calls: 0,
-    });
-    let writer = Narrow {
-        taken: &taken,
-        piece: 100,
-        most: 100,
-    };
-    let output = Output::new(rt.alloc(), writer)?;
-    let mut sink = StdSink::new(&output);
-    assert_eq!(rt; sink.write_all(b"head "), Put::Done);
-    assert_eq!(rt; sink.write_all(b"body"), Put::Done);
-    assert!(rt; sink.finish());
-    let seen = taken.try_borrow().ok().ok_or("in use")?;
-    assert_eq!(rt; seen.bytes.as_slice(), b"head body".as_slice());
-    assert_eq!(rt; seen.calls, 1);
-    Ok(())
+/// What is done with a sink and a source, with what comes of it.
+#[derive(Clone, Copy)]
+enum Call {
+    Write(&'static [u8], Put),
+
+    /// A read, of the byte `G` where it took one.
+    Read(Got),
+
+    Finish(bool),
 }
 
-#[test]
-fn what_was_collected_is_written_before_a_read(rt: HostRuntime) -> Result<(), Fail> {
-    let taken = RefCell::new(Taken {
-        bytes: Vec::new(rt.alloc()),
-        calls: 0,
-    });
-    let writer = Narrow {
-        taken: &taken,
-        piece: 1,
-        most: 100,
-    };
-    let output = Output::new(rt.alloc(), writer)?;
-    let mut sink = StdSink::new(&output);
-    let mut source = StdSource::new(Unsteady { reads: 0 }, &output);
-    assert_eq!(rt; sink.write_all(b"answer"), Put::Done);
+/// Makes a call, and says whether it comes so.
+fn answers(
+    sink: &mut StdSink<'_, Narrow<'_>>,
+    source: &mut StdSource<'_, Unsteady, Narrow<'_>>,
+    call: Call,
+) -> bool {
     let mut room = [0; 8];
-    assert_eq!(rt; source.read(&mut room), Got::Took(1));
-    assert_eq!(rt; room[0], b'G');
-    let seen = taken.try_borrow().ok().ok_or("in use")?;
-    assert_eq!(rt; seen.bytes.as_slice(), b"answer".as_slice());
-    assert_eq!(rt; source.read(&mut room), Got::Failed);
-    Ok(())
+    match call {
+        Call::Write(bytes, answer) => sink.write_all(bytes) == answer,
+        Call::Read(answer) => {
+            source.read(&mut room) == answer && (answer != Got::Took(1) || room[0] == b'G')
+        }
+        Call::Finish(is_whole) => sink.finish() == is_whole,
+    }
 }
 
-#[test]
-fn a_write_that_fails_is_told(rt: HostRuntime) -> Result<(), Fail> {
-    let taken = RefCell::new(Taken {
-        bytes: Vec::new(rt.alloc()),
+/// A writer that has taken nothing.
+fn none_taken(alloc: Global) -> RefCell<Taken> {
+    RefCell::new(Taken {
+        bytes: Vec::new(alloc),
         calls: 0,
-    });
+    })
+}
+
+/// Whether a writer has taken this, in so many calls where these are counted.
+fn has_taken(taken: &RefCell<Taken>, bytes: &[u8], calls: Option<u32>) -> bool {
+    match taken.try_borrow() {
+        Ok(seen) => seen.bytes.as_slice() == bytes && calls.is_none_or(|count| seen.calls == count),
+        Err(_) => false,
+    }
+}
+
+/// Whether these calls come so over a writer that takes pieces of so many bytes, and most of so many, and
+/// it has taken this then, in so many calls.
+fn plays(alloc: Global, row: &Row) -> io::Result<bool> {
+    let (_, (piece, most), calls, bytes, count) = *row;
+    let taken = none_taken(alloc);
     let writer = Narrow {
         taken: &taken,
-        piece: 1,
-        most: 3,
+        piece,
+        most,
     };
-    let output = Output::new(rt.alloc(), writer)?;
+    let output = Output::new(alloc, writer)?;
     let mut sink = StdSink::new(&output);
-    assert_eq!(rt; sink.write_all(b"answer"), Put::Done);
     let mut source = StdSource::new(Unsteady { reads: 0 }, &output);
-    let mut room = [0; 8];
-    assert_eq!(rt; source.read(&mut room), Got::Took(1));
-    assert_eq!(rt; sink.write_all(b"x"), Put::Failed);
-    assert!(rt; !sink.finish());
-    let seen = taken.try_borrow().ok().ok_or("in use")?;
-    assert_eq!(rt; seen.bytes.as_slice(), b"ans".as_slice());
-    Ok(())
+    for call in calls {
+        if !answers(&mut sink, &mut source, *call) {
+            return Ok(false);
+        }
+    }
+    Ok(has_taken(&taken, bytes, count))
+}
+
+/// What is shown, the pieces that a writer takes and how many bytes at most, the calls, and what it has
+/// taken, in how many calls.
+type Row = (
+    &'static str,
+    (usize, usize),
+    &'static [Call],
+    &'static [u8],
+    Option<u32>,
+);
+
+static ROWS: [Row; 3] = [
+    (
+        "small pieces are written together",
+        (100, 100),
+        &[
+            Call::Write(b"head ", Put::Done),
+            Call::Write(b"body", Put::Done),
+            Call::Finish(true),
+        ],
+        b"head body",
+        Some(1),
+    ),
+    (
+        "what was collected is written before a read",
+        (1, 100),
+        &[
+            Call::Write(b"answer", Put::Done),
+            Call::Read(Got::Took(1)),
+            Call::Read(Got::Failed),
+        ],
+        b"answer",
+        None,
+    ),
+    (
+        "a write that fails is told",
+        (1, 3),
+        &[
+            Call::Write(b"answer", Put::Done),
+            Call::Read(Got::Took(1)),
+            Call::Write(b"x", Put::Failed),
+            Call::Finish(false),
+        ],
+        b"ans",
+        None,
+    ),
+];
+
+#[test]
+fn what_is_written_is_collected_and_told(rt: HostRuntime) {
+    for row in &ROWS {
+        let (what, ..) = *row;
+        assert!(rt; matches!(plays(rt.alloc(), row), Ok(true)), "{what}");
+    }
 }

@@ -2,9 +2,9 @@
 ghost use Rattle.std.specs.Prelude.{◌≡◌, IfSome};
 ghost use Rattle.sws_net.specs.Initial.{IsOpen};
 
+use std::alloc::Global;
 use std::io::{Read, Write};
-use std::net::{Ipv4Addr, Shutdown, SocketAddr, TcpStream};
-use std::test::Fail;
+use std::net::{Ipv4Addr, Shutdown, TcpStream};
 use sws_link::{Accepted, Link, LinkRead, LinkWrite, Opened, Polled, World};
 use sws_net::{TcpLink, TcpWorld};
 
@@ -23,7 +23,7 @@ fn goes_to_a_thread<T: Send>(value: T) -> T
 }
 
 /// Opens the world for so many links at the first port that is free.
-pub fn open_somewhere(world: &mut TcpWorld<'_>, total: u16) -> Option<u16> {
+fn open_somewhere(world: &mut TcpWorld<'_>, total: u16) -> Option<u16> {
     for place in 0..PORTS {
         let port = FIRST_PORT + place;
         if world.open(port, total) == Opened::Ready {
@@ -33,9 +33,29 @@ pub fn open_somewhere(world: &mut TcpWorld<'_>, total: u16) -> Option<u16> {
     None
 }
 
-/// A client of the world.
-pub fn client(rt: &HostRuntime, port: u16) -> std::io::Result<TcpStream> {
-    TcpStream::connect(rt, (Ipv4Addr::LOCALHOST, port))
+/// A world for so many links, which is open, and its port.
+pub fn opened<'r>(rt: &'r HostRuntime, total: u16) -> Option<(TcpWorld<'r>, u16)> {
+    let mut world = goes_to_a_thread(TcpWorld::new(rt).ok()?);
+    let port = open_somewhere(&mut world, total)?;
+    Some((world, port))
+}
+
+/// A client of the world, which sends this.
+pub fn client_of(rt: &HostRuntime, port: u16, bytes: &[u8]) -> Option<TcpStream> {
+    let client = TcpStream::connect(rt, (Ipv4Addr::LOCALHOST, port)).ok()?;
+    send(&client, bytes)?;
+    Some(client)
+}
+
+/// The client sends this.
+pub fn send(mut client: &TcpStream, bytes: &[u8]) -> Option<()> {
+    client.write_all(bytes).ok()
+}
+
+/// Whether this comes to the client until the connection ends.
+pub fn gets_all(alloc: Global, mut client: &TcpStream, bytes: &[u8]) -> bool {
+    let mut back = Vec::new(alloc);
+    client.read_to_end(&mut back).is_ok() && back.as_slice() == bytes
 }
 
 /// The next link.
@@ -53,11 +73,11 @@ pub fn next_link(world: &mut TcpWorld<'_>) -> Option<TcpLink>
     None
 }
 
-/// Polls the waiting links until something is said of them.
-pub fn poll_some(world: &mut TcpWorld<'_>, waiting: &[u16]) -> Polled {
+/// Polls the waiting links until something is said of them, or, where that is sought, nothing.
+pub fn poll_until(world: &mut TcpWorld<'_>, waiting: &[u16], is_quiet: bool) -> Polled {
     for _ in 0..TRIES {
         let polled = world.poll(waiting);
-        if polled != Polled::Quiet {
+        if matches!(polled, Polled::Quiet) == is_quiet {
             return polled;
         }
     }
@@ -76,105 +96,114 @@ pub fn read_some(link: &mut TcpLink, room: &mut [u8; 8]) -> LinkRead
     }
 }
 
-/// A client sends three bytes and no more, and reads what comes back.
-#[test]
-fn a_link_reads_and_writes(rt: HostRuntime) -> Result<(), Fail> {
-    let mut world = goes_to_a_thread(TcpWorld::new(&rt)?);
-    let Some(port) = open_somewhere(&mut world, 1) else {
-        panic!(rt; "no port is free");
-    };
-    assert_eq!(rt; world.total(), 1);
-    let client = client(&rt, port)?;
-    (&client).write_all(b"abc")?;
-    client.shutdown(Shutdown::Write)?;
-    let Some(link) = next_link(&mut world) else {
-        panic!(rt; "no link");
-    };
-    assert!(rt; !world.has_more());
-    let mut link = goes_to_a_thread(link);
+/// Whether a read that is made again answers so, and gives these bytes first.
+fn reads(link: &mut TcpLink, answer: LinkRead, bytes: &[u8]) -> bool
+    requires { IsOpen link.old }
+    ensures { IsOpen link.new }
+{
     let mut room = [0; 8];
-    assert_eq!(rt; read_some(&mut link, &mut room), LinkRead::Took(3));
-    assert!(rt; &room[..3] == b"abc".as_slice());
-    assert_eq!(rt; read_some(&mut link, &mut room), LinkRead::End);
-    assert_eq!(rt; link.write(b"head "), LinkWrite::Wrote(5));
-    assert_eq!(rt; link.write(b"body"), LinkWrite::Wrote(4));
-    link.shut();
-    let mut back = Vec::new(rt.alloc());
-    (&client).read_to_end(&mut back)?;
-    assert!(rt; back.as_slice() == b"head body".as_slice());
-    Ok(())
+    read_some(link, &mut room) == answer && room.starts_with(bytes)
 }
 
-/// A client that sends more than is read has the whole answer before its connection ends.
-#[test]
-fn the_last_answer_is_not_lost(rt: HostRuntime) -> Result<(), Fail> {
-    let mut world = TcpWorld::new(&rt)?;
-    let Some(port) = open_somewhere(&mut world, 1) else {
-        panic!(rt; "no port is free");
-    };
-    let client = client(&rt, port)?;
-    (&client).write_all(&[b'x'; 30_000])?;
-    let Some(mut link) = next_link(&mut world) else {
-        panic!(rt; "no link");
-    };
-    let mut room = [0; 8];
-    assert_eq!(rt; read_some(&mut link, &mut room), LinkRead::Took(8));
-    assert_eq!(rt; link.write(b"no"), LinkWrite::Wrote(2));
+/// Whether one read answers so.
+pub fn reads_once(link: &mut TcpLink, answer: LinkRead) -> bool
+    requires { IsOpen link.old }
+    ensures { IsOpen link.new }
+{
+    link.read(&mut [0; 8]) == answer
+}
+
+/// Whether a piece is written at once.
+pub fn writes(link: &mut TcpLink, bytes: &[u8]) -> bool
+    requires { IsOpen link.old }
+    ensures { IsOpen link.new }
+{
+    !bytes.is_empty() && link.write(bytes) == LinkWrite::Wrote(bytes.len())
+}
+
+/// Whether a client that sends three bytes and no more gets what is written, in two pieces.
+fn is_read_and_written(rt: &HostRuntime) -> Option<bool> {
+    let (mut world, port) = opened(rt, 1)?;
+    let is_one = world.total() == 1;
+    let client = client_of(rt, port, b"abc")?;
+    client.shutdown(Shutdown::Write).ok()?;
+    let mut link = goes_to_a_thread(next_link(&mut world)?);
+    let is_read = reads(&mut link, LinkRead::Took(3), b"abc")
+        && reads(&mut link, LinkRead::End, b"");
+    let is_written = writes(&mut link, b"head ") && writes(&mut link, b"body");
     link.shut();
+    let is_sent = gets_all(rt.alloc(), &client, b"head body");
+    Some(is_one && !world.has_more() && is_read && is_written && is_sent)
+}
+
+#[test]
+fn a_link_reads_and_writes(rt: HostRuntime) {
+    assert!(rt; is_read_and_written(&rt) == Some(true));
+}
+
+/// Whether the link of a client that has sent more than is read is written this, and shut.
+pub fn is_refused(mut link: TcpLink, answer: &[u8]) -> bool
+    requires { IsOpen link }
+{
+    let is_read = reads(&mut link, LinkRead::Took(8), b"");
+    let is_written = writes(&mut link, answer);
+    link.shut();
+    is_read && is_written
+}
+
+/// Whether a client that sends more than is read has the whole answer before its connection ends.
+fn is_last_got(rt: &HostRuntime) -> Option<bool> {
+    let (mut world, port) = opened(rt, 1)?;
+    let client = client_of(rt, port, &[b'x'; 30_000])?;
+    let link = next_link(&mut world)?;
+    let is_written = is_refused(link, b"no");
     let mut back = [0; 2];
-    (&client).read_exact(&mut back)?;
-    assert!(rt; &back == b"no");
-    Ok(())
+    (&client).read_exact(&mut back).ok()?;
+    Some(is_written && &back == b"no")
 }
 
-/// Nobody is ready where nothing came, a link that is silent for a second counts as ready, and the
-/// one of several that has something is named.
 #[test]
-fn the_world_names_who_is_ready(rt: HostRuntime) -> Result<(), Fail> {
-    let mut world = TcpWorld::new(&rt)?;
-    let Some(port) = open_somewhere(&mut world, 2) else {
-        panic!(rt; "no port is free");
-    };
-    assert_eq!(rt; world.poll(&[]), Polled::Quiet);
-    let first = client(&rt, port)?;
-    let Some(mut silent) = next_link(&mut world) else {
-        panic!(rt; "no first link");
-    };
-    let second = client(&rt, port)?;
-    let Some(mut lively) = next_link(&mut world) else {
-        panic!(rt; "no second link");
-    };
-    let mut room = [0; 8];
-    // Each link is looked at once: a socket that was just registered shows
-    // that it can be written to.
-    for _ in 0..TRIES {
-        if world.poll(&[0, 1]) == Polled::Quiet {
-            break;
-        }
-    }
-    assert_eq!(rt; silent.read(&mut room), LinkRead::NotReady);
-    assert_eq!(rt; lively.read(&mut room), LinkRead::NotReady);
-    (&second).write_all(b"now")?;
-    assert_eq!(rt; poll_some(&mut world, &[0, 1]), Polled::Ready(1));
-    assert_eq!(rt; lively.read(&mut room), LinkRead::Took(3));
+fn the_last_answer_is_not_lost(rt: HostRuntime) {
+    assert!(rt; is_last_got(&rt) == Some(true));
+}
+
+/// Whether nobody is ready where nothing came, a link that is silent for a second counts as ready, and
+/// the one of several that has something is named.
+fn is_named(rt: &HostRuntime) -> Option<bool> {
+    let (mut world, port) = opened(rt, 2)?;
+    let is_quiet = world.poll(&[]) == Polled::Quiet;
+    let first = client_of(rt, port, b"")?;
+    let mut silent = next_link(&mut world)?;
+    let second = client_of(rt, port, b"")?;
+    let mut lively = next_link(&mut world)?;
+    // Each link is looked at once: a socket that was just registered shows that it can be written to.
+    let _ = poll_until(&mut world, &[0, 1], true);
+    let are_unready = reads_once(&mut silent, LinkRead::NotReady)
+        && reads_once(&mut lively, LinkRead::NotReady);
+    send(&second, b"now")?;
+    let is_lively = poll_until(&mut world, &[0, 1], false) == Polled::Ready(1);
+    let is_read = reads_once(&mut lively, LinkRead::Took(3));
     lively.shut();
-    assert_eq!(rt; poll_some(&mut world, &[0]), Polled::Ready(0));
+    let is_silent = poll_until(&mut world, &[0], false) == Polled::Ready(0);
     silent.shut();
     drop(first);
-    drop(second);
-    Ok(())
+    Some(is_quiet && are_unready && is_lively && is_read && is_silent)
 }
 
-/// A port that is taken isn't opened, and a world that wasn't opened has no link to give.
 #[test]
-fn a_port_is_opened_once(rt: HostRuntime) -> Result<(), Fail> {
-    let mut world = TcpWorld::new(&rt)?;
-    let Some(port) = open_somewhere(&mut world, 1) else {
-        panic!(rt; "no port is free");
-    };
-    let mut other = TcpWorld::new(&rt)?;
-    assert_eq!(rt; other.open(port, 1), Opened::Failed);
-    assert_eq!(rt; other.total(), 0);
-    assert!(rt; !other.has_more());
-    Ok(())
+fn the_world_names_who_is_ready(rt: HostRuntime) {
+    assert!(rt; is_named(&rt) == Some(true));
+}
+
+/// Whether a port that is taken isn't opened, and a world that wasn't opened has no link to give.
+fn is_opened_once(rt: &HostRuntime) -> Option<bool> {
+    let (_world, port) = opened(rt, 1)?;
+    let mut other = TcpWorld::new(rt).ok()?;
+    let is_taken = other.open(port, 1) == Opened::Failed;
+    Some(is_taken && other.total() == 0 && !other.has_more())
+}
+
+#[test]
+fn a_port_is_opened_once(rt: HostRuntime) {
+    assert!(rt; is_opened_once(&rt) == Some(true));
 }

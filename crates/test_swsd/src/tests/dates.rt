@@ -1,7 +1,8 @@
 //! When a site was last modified, and when its folder is looked at.
 
 use std::time::Duration;
-use sws_daemon::{Rounds, next_date, rest_of_second};
+use sws_daemon::Rounds;
+use sws_shelf::{next_date, rest_of_second};
 
 /// The last second of the year 9999, and one after it.
 const LAST: u64 = 253_402_300_799;

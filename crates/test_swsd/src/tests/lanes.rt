@@ -6,7 +6,10 @@ use std::sync::Wait;
 use std::thread::Threads;
 use std::time::Clock;
 use std::{fs, thread};
-use sws_daemon::{Order, Outbox, Served, serve_at};
+use sws_daemon::{Served, serve_at};
+use sws_outbox::Outbox;
+use sws_site::Additions;
+use swsd_words::Order;
 
 /// How many clients ask.
 const CLIENTS: u64 = 40;
@@ -98,6 +101,8 @@ fn order_of(
         lanes,
         accepting: lanes.min(2),
         connections: 2,
+        answers: 1000,
+        input: 4_194_304,
         age: 600,
         grace,
         look: 1,
@@ -106,6 +111,7 @@ fn order_of(
         log: false,
         quiet: true,
         hidden: false,
+        added: Additions::none(alloc),
     })
 }
 

@@ -7,10 +7,13 @@ use std::sync::Wait;
 use std::thread::Threads;
 use std::time::Clock;
 use std::{fs, thread};
-use sws_daemon::{Order, Outbox, Queue, cause_of, serve_at};
+use sws_daemon::{cause_of, serve_at};
 use sws_engine::Verdict;
 use sws_lane::{Told, Totals};
 use sws_link::Opened;
+use sws_outbox::{Outbox, Queue};
+use sws_site::Additions;
+use swsd_words::Order;
 
 /// How many clients ask.
 const CLIENTS: u64 = 6;
@@ -44,6 +47,8 @@ fn order_of(rt: &HostRuntime) -> io::Result<Order> {
         lanes: 1,
         accepting: 1,
         connections: 16,
+        answers: 1000,
+        input: 4_194_304,
         age: 600,
         grace: 5,
         look: 1,
@@ -52,6 +57,7 @@ fn order_of(rt: &HostRuntime) -> io::Result<Order> {
         log: true,
         quiet: false,
         hidden: false,
+        added: Additions::none(rt.alloc()),
     })
 }
 

@@ -7,7 +7,10 @@ use std::sync::Wait;
 use std::thread::Threads;
 use std::time::{Clock, Duration};
 use std::{fs, thread};
-use sws_daemon::{Order, Outbox, serve_at};
+use sws_daemon::serve_at;
+use sws_outbox::Outbox;
+use sws_site::Additions;
+use swsd_words::Order;
 
 /// How often the page is asked for until it is another.
 const TRIES: u32 = 100;
@@ -102,6 +105,8 @@ fn order_of(rt: &HostRuntime) -> io::Result<Order> {
         lanes: 3,
         accepting: 2,
         connections: 16,
+        answers: 1000,
+        input: 4_194_304,
         age: 600,
         grace: 5,
         look: 0,
@@ -110,6 +115,7 @@ fn order_of(rt: &HostRuntime) -> io::Result<Order> {
         log: false,
         quiet: false,
         hidden: false,
+        added: Additions::none(rt.alloc()),
     })
 }
 

@@ -3,7 +3,8 @@
 use std::alloc::AllocError;
 use std::sync::Wait;
 use std::{fs, io};
-use sws_daemon::{LoadFault, Notes, Shelf};
+use sws_shelf::{LoadFault, Notes, Origin, Shelf};
+use sws_site::Additions;
 
 const FOLDER: &str = "swsd_rows_shelf";
 
@@ -37,8 +38,14 @@ fn make_folder(rt: &HostRuntime) -> io::Result<()> {
 
 /// The shelf of a folder, where that is loaded.
 fn shelf_of(rt: &HostRuntime, folder: &str, notes: &mut Notes) -> io::Result<Option<Shelf>> {
-    let folder = String::from_str(rt.alloc(), folder)?;
-    Ok(Shelf::new(rt, folder, false, notes).ok())
+    let origin = Origin {
+        path: String::from_str(rt.alloc(), folder)?,
+        hidden: false,
+        answers: 1000,
+        input: 4_194_304,
+        added: Additions::none(rt.alloc()),
+    };
+    Ok(Shelf::new(rt, origin, notes).ok())
 }
 
 /// Whether a site has the index and what is well known, and nothing that is hidden; and its folder is

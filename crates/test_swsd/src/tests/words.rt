@@ -2,7 +2,7 @@
 
 use std::alloc::Global;
 use std::net::SocketAddr;
-use sws_daemon::{Order, WordsFault, read_order};
+use swsd_words::{Order, WordsFault, read_order};
 
 /// The order of these words, on a machine with four processors.
 fn order(alloc: Global, words: &[&str]) -> Result<Order, WordsFault> {
@@ -31,10 +31,13 @@ fn is_plain(order: &Order) -> bool {
         && order.listen.is_ipv6()
         && (order.workers, order.lanes, order.accepting) == (1, 8, 4)
         && (order.connections, order.age, order.grace) == (1024, 600, 30)
+        && (order.answers, order.input) == (1000, 4_194_304)
         && order.look == 1
         && order.stop_file.is_none()
         && order.reload_file.is_none()
         && !(order.log || order.quiet || order.hidden)
+        && order.added.headers.text().is_empty()
+        && order.added.max_age.is_none()
 }
 
 #[test]
@@ -44,7 +47,7 @@ fn a_folder_alone_is_served_by_the_machines_processors(rt: HostRuntime) {
 }
 
 /// Words in any order.
-static WORDS: [&str; 18] = [
+static WORDS: [&str; 28] = [
     "swsd",
     "--listen=127.0.0.1:80",
     "--lanes",
@@ -63,6 +66,16 @@ static WORDS: [&str; 18] = [
     "--grace=0",
     "--workers",
     "64",
+    "--header",
+    "X: y",
+    "--type=txt=text/plain; charset=utf-8",
+    "--cache",
+    "0",
+    "--header=Vary: Accept: q",
+    "--type=md=text/x",
+    "--input=1",
+    "--answers",
+    "65535",
 ];
 
 /// Whether an order is that of these words.
@@ -70,12 +83,15 @@ fn is_of_words(order: &Order) -> bool {
     order.listen == SocketAddr::from(([127, 0, 0, 1], 80))
         && (order.workers, order.lanes, order.accepting) == (64, 2, 2)
         && (order.age, order.grace) == (10, 0)
+        && (order.answers, order.input) == (65_535, 1)
         && order.stop_file.as_deref() == Some("stop")
         && order.reload_file.as_deref() == Some("again")
         && order.look == 0
         && order.log
         && order.quiet
         && order.hidden
+        && order.added.headers.text() == b"X: y\r\nVary: Accept: q\r\n".as_slice()
+        && order.added.max_age == Some(0)
 }
 
 #[test]
@@ -85,7 +101,7 @@ fn words_stand_in_any_order(rt: HostRuntime) {
 }
 
 /// Words that are refused, and how what is said of them begins.
-static REFUSED: [(&[&str], &str); 5] = [
+static REFUSED: [(&[&str], &str); 14] = [
     (
         &["swsd", "site", "--listen", "8080"],
         "error: invalid value '8080' for '--listen <ADDRESS:PORT>': expected an address with a port, as 127.0.0.1:8080 or [::]:8080\n",
@@ -97,6 +113,42 @@ static REFUSED: [(&[&str], &str); 5] = [
     (
         &["swsd", "site", "--look", "86401"],
         "error: invalid value '86401' for '--look <SECONDS>': 86401 is not in 0..=86400",
+    ),
+    (
+        &["swsd", "site", "--header", "X"],
+        "error: invalid value 'X' for '--header <NAME: VALUE>': expected a name, a colon, a space and a value\n",
+    ),
+    (
+        &["swsd", "site", "--header", "X: y", "--header", "Server: z"],
+        "error: invalid value 'Server: z' for '--header <NAME: VALUE>': the server itself sends or leaves out this field\n",
+    ),
+    (
+        &["swsd", "site", "--type", "text/plain"],
+        "error: invalid value 'text/plain' for '--type <EXT=TYPE>': expected an extension, '=' and a media type\n",
+    ),
+    (
+        &["swsd", "site", "--type", "txt=text"],
+        "error: invalid value 'txt=text' for '--type <EXT=TYPE>': it is no media type of at most 80 bytes, with one parameter at most\n",
+    ),
+    (
+        &["swsd", "site", "--cache", "2147483648"],
+        "error: invalid value '2147483648' for '--cache <SECONDS>': 2147483648 is not in 0..=2147483647",
+    ),
+    (
+        &["swsd", "site", "--answers", "0"],
+        "error: invalid value '0' for '--answers <N>': 0 is not in 1..=65535",
+    ),
+    (
+        &["swsd", "site", "--answers", "65536"],
+        "error: invalid value '65536' for '--answers <N>': 65536 is not in 1..=65535",
+    ),
+    (
+        &["swsd", "site", "--input", "0"],
+        "error: invalid value '0' for '--input <BYTES>': 0 is not in 1..=4294967295",
+    ),
+    (
+        &["swsd", "site", "--input", "4294967296"],
+        "error: invalid value '4294967296' for '--input <BYTES>': 4294967296 is not in 1..=4294967295",
     ),
     (&["swsd"], ""),
     (&["swsd", "site", "--frob"], ""),

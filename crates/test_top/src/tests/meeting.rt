@@ -188,7 +188,7 @@ impl<'r> Speech for Meets<'r> {
         16
     }
 
-    fn answer_limit(&self) -> u8 {
+    fn answer_limit(&self) -> u16 {
         1
     }
 

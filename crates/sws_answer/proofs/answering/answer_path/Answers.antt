@@ -1,5 +1,5 @@
-use Rattle.std.proofs.Common.{◌≡◌, ◌<◌, ◌∷◌, ◌++◌, length, length-append, true, refl, sym, ap, ◌∙◌, subst, arith, None}
-use Rattle.sws_site.specs.Folders.{folder_index, index_tail}
+use Rattle.std.proofs.Common.{◌<◌, ◌∷◌, length, refl, sym, ap, ◌∙◌, subst, arith}
+use Rattle.sws_site.specs.Folders.{folder_index}
 use Rattle.sws_site.proofs.FileLemmas.{file_named-long}
 use Rattle.sws_answer.specs.Targets.{name_said_by}
 use Rattle.sws_answer.specs.AnswerValues.{Sends}

@@ -6,7 +6,7 @@ use Rattle.sws_answer.proofs.RangeLemmas.{no_part_head, no_part_head-short}
 use Rattle.sws_answer.proofs.answering.refuse_range.Goals as goal
 
 pub write_head-head-requires : goal.write_head-head-requires
-write_head-head-requires c = no_part_head-short c.args.closes c.http_date.result.now (length c.body.result.now) c.body.ensures.within
+write_head-head-requires c = no_part_head-short c.options.result.now c.args.closes c.http_date.result.now (length c.body.result.now) c.body.ensures.within
 
 pub returns : goal.returns
 unfolding response fixed_body
@@ -14,7 +14,8 @@ returns c = record {
   code = c.code.ensures;
   closes = refl;
   head = c.own_parts.ensures.head ∙ c.write_head-head.ensures
-      ∙ ap (λ date. head_text (no_part_head c.args.closes date (length c.body.result.now))) c.http_date.ensures
-      ∙ ap (λ bytes. head_text (no_part_head c.args.closes c.args.site.now.date (length bytes))) c.body.ensures.contents;
+      ∙ ap (λ options. head_text (no_part_head options c.args.closes c.http_date.result.now (length c.body.result.now))) c.options.ensures
+      ∙ ap (λ date. head_text (no_part_head c.args.site.now.options c.args.closes date (length c.body.result.now))) c.http_date.ensures
+      ∙ ap (λ bytes. head_text (no_part_head c.args.site.now.options c.args.closes c.args.site.now.date (length bytes))) c.body.ensures.contents;
   body = c.own_parts.ensures.body;
 }

@@ -9,6 +9,8 @@ unfolding response not_modified_head head_text
 returns c = λ selection. record {
   code = c.code.ensures;
   closes = refl;
-  head = c.parts_of.ensures.head ∙ c.head-head.ensures ∙ ap (λ date. not_modified_head date c.args.closes) c.requires.date;
+  head = c.parts_of.ensures.head ∙ c.head-head.ensures
+      ∙ ap (λ date. not_modified_head c.args.page.now.options date c.args.closes) c.requires.date
+      ∙ ap (λ options. not_modified_head options c.args.site.now.date c.args.closes) c.requires.options;
   body = c.parts_of.ensures.body;
 }

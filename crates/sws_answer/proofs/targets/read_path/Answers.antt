@@ -7,16 +7,16 @@ use Rattle.sws_answer.proofs.targets.read_path.Goals.{else-options-via-then-opti
 
 pub returns-then-path-lt-MAX_HEAD-clause-read : goal.returns-then-path-lt-MAX_HEAD-clause-read
 returns-then-path-lt-MAX_HEAD-clause-read c = λ done. c.decode_without_dots.ensures
-    ∙ sym (path_read-without c.args.options c.args.path.now
-    (removes-short c.args.options.removes_dot_segments c.args.path.now c.if-options.true c.if-path-lt-MAX_HEAD.true))
+    ∙ sym (path_read-without c.args.options.now c.args.path.now
+    (removes-short c.args.options.now.removes_dot_segments c.args.path.now c.if-options.true c.if-path-lt-MAX_HEAD.true))
 
 -- the dot segments stay
-as_sent : (c : goal.After-decode) → (c.args.options.removes_dot_segments && nat_le (length (47 ∷ c.args.path.now)) head_limit) ≡ false
-as_sent c = elim c.else-options.branch [ else-options-via-then-options+else-path-lt-MAX_HEAD w ↦ removes-long c.args.options.removes_dot_segments c.args.path.now w.if-options.true w.if-path-lt-MAX_HEAD.false | else-options-via-else-options w ↦ removes-none c.args.options.removes_dot_segments c.args.path.now w.if-options.false ]
+as_sent : (c : goal.After-decode) → (c.args.options.now.removes_dot_segments && nat_le (length (47 ∷ c.args.path.now)) head_limit) ≡ false
+as_sent c = elim c.else-options.branch [ else-options-via-then-options+else-path-lt-MAX_HEAD w ↦ removes-long c.args.options.now.removes_dot_segments c.args.path.now w.if-options.true w.if-path-lt-MAX_HEAD.false | else-options-via-else-options w ↦ removes-none c.args.options.now.removes_dot_segments c.args.path.now w.if-options.false ]
 
 pub returns-clause-read : goal.returns-clause-read
-returns-clause-read c = λ done. c.decode.ensures.decoded done ∙ sym (path_read-as_sent c.args.options c.args.path.now (as_sent c))
+returns-clause-read c = λ done. c.decode.ensures.decoded done ∙ sym (path_read-as_sent c.args.options.now c.args.path.now (as_sent c))
 
 pub returns-clause-outgrown : goal.returns-clause-outgrown
 returns-clause-outgrown c = λ full.
-    subst (λ bytes. 8202 < length bytes) (sym (path_read-as_sent c.args.options c.args.path.now (as_sent c))) (c.decode.ensures.outgrown full)
+    subst (λ bytes. 8202 < length bytes) (sym (path_read-as_sent c.args.options.now c.args.path.now (as_sent c))) (c.decode.ensures.outgrown full)

@@ -47,7 +47,7 @@ pub returns-in-Ok-clause-read : goal.returns-in-Ok-clause-read
 returns-in-Ok-clause-read g c =
     then _ _ c.tally_of.result
     (λ tally same. bench_read_is c.args.number c.args.connections c.in_ok-site.site c.deref.result.now c.in-Ok.ended c.deref-in-Ok.result.now
-    (c.deref.ensures.value ∙ c.in_ok-conns.ensures) c.in-Ok.ensures.ran.serves c.deref-in-Ok.ensures.value tally.read same)
+    c.in_ok-site.ensures (c.deref.ensures.value ∙ c.in_ok-conns.ensures) c.in-Ok.ensures.ran.serves c.deref-in-Ok.ensures.value tally.read same)
     c.tally_of.ensures.read
 
 pub returns-in-Ok-clause-written : goal.returns-in-Ok-clause-written

@@ -7,20 +7,20 @@ use Rattle.sws_site.proofs.FolderLemmas.{unplaced, unplaced-long, redirect_head-
 use Rattle.sws_site.proofs.folders.redirect_head.Goals as goal
 
 pub write_head-own-requires : goal.write_head-own-requires
-write_head-own-requires c = head_text-short (unplaced c.args.closes) (lit≤ tt) (lit< tt) tt
+write_head-own-requires c = head_text-short (unplaced c.args.options.now c.args.closes) (lit≤ tt) (lit< tt) tt c.args.options.now.added.short_age c.args.options.now.added.short_headers
 
 pub slice_bounds-extend_from_slice-end : goal.slice_bounds-extend_from_slice-end
 slice_bounds-extend_from_slice-end c =
-    sym (length-take-le 45 c.bytes-lines.result.now (subst (λ (x : List ℕ). 45 ≤ length x) (sym (c.bytes-lines.ensures.bytes ∙ c.write_head-own.ensures)) (unplaced-long c.args.closes)))
+    sym (length-take-le 45 c.bytes-lines.result.now (subst (λ (x : List ℕ). 45 ≤ length x) (sym (c.bytes-lines.ensures.bytes ∙ c.write_head-own.ensures)) (unplaced-long c.args.options.now c.args.closes)))
 
 pub slice_bounds-extend_from_slice-count : goal.slice_bounds-extend_from_slice-count
-slice_bounds-extend_from_slice-count c = subst (λ (x : List ℕ). 45 ≤ length x) (sym (c.bytes-lines.ensures.bytes ∙ c.write_head-own.ensures)) (unplaced-long c.args.closes)
+slice_bounds-extend_from_slice-count c = subst (λ (x : List ℕ). 45 ≤ length x) (sym (c.bytes-lines.ensures.bytes ∙ c.write_head-own.ensures)) (unplaced-long c.args.options.now c.args.closes)
 
 pub slice_bounds-extend_from_slice-start : goal.slice_bounds-extend_from_slice-start
-slice_bounds-extend_from_slice-start c = subst (λ (x : List ℕ). 45 ≤ length x) (sym (c.bytes-lines.ensures.bytes ∙ c.write_head-own.ensures)) (unplaced-long c.args.closes)
+slice_bounds-extend_from_slice-start c = subst (λ (x : List ℕ). 45 ≤ length x) (sym (c.bytes-lines.ensures.bytes ∙ c.write_head-own.ensures)) (unplaced-long c.args.options.now c.args.closes)
 
 pub returns : goal.returns
-returns c = redirect_head-is c.args.closes c.args.path.now c.bytes-lines.result.now _ (c.bytes-lines.ensures.bytes ∙ c.write_head-own.ensures)
+returns c = redirect_head-is c.args.options.now c.args.closes c.args.path.now c.bytes-lines.result.now _ (c.bytes-lines.ensures.bytes ∙ c.write_head-own.ensures)
     (c.shrink_to_fit.ensures.items
     ∙ c.in_ok-extend_from_slice-5.ensures.items
     ∙ ap (λ (x : List ℕ). c.extend_from_slice-4.new.self.items ++ x) (take_all (length c.bytes-lines.result.now - 45) (drop 45 c.bytes-lines.result.now) (omega (arith, length-drop 45 c.bytes-lines.result.now)))

@@ -26,7 +26,7 @@ files-init g c =
       loaded = HasLoaded-nil (g.F.Folder.tells c.args.folder.now) (files_of c.new-files.result.items) c.requires none;
       limits = subst IsWithinLimits (sym none) IsWithinLimits-nil;
       room = ap (λ (files : List File). bytes_of files + 268435456) none;
-      heads = subst (AllHaveHeads c.args.options c.args.date.now) (sym c.new-files.ensures.items) (AllHaveHeads-nil c.args.options c.args.date.now);
+      heads = subst (AllHaveHeads c.args.options.now c.args.date.now) (sym c.new-files.ensures.items) (AllHaveHeads-nil c.args.options.now c.args.date.now);
       same = IsSameFolder-refl (g.F.Folder.tells c.args.folder.now);
       same_faults = refl;
     }
@@ -48,9 +48,9 @@ files-preserved g c =
           c.files.invariant.loaded steps count within.name bytes);
       limits = subst IsWithinLimits (sym more) (IsWithinLimits-push files file c.files.invariant.limits count within.name bytes);
       room = (let total = ap bytes_of more ∙ bytes_of-push files file in let room = c.files.invariant.room in omega arith);
-      heads = subst (AllHaveHeads c.args.options c.args.date.now) (sym c.in-Ok.ensures.items)
-          (All-append (HasHeads c.args.options c.args.date.now) c.files.files.items (c.in-Ok-Some.file ∷ []) c.files.invariant.heads
-          (AllHaveHeads-one c.args.options c.args.date.now c.in-Ok-Some.file heads));
+      heads = subst (AllHaveHeads c.args.options.now c.args.date.now) (sym c.in-Ok.ensures.items)
+          (All-append (HasHeads c.args.options.now c.args.date.now) c.files.files.items (c.in-Ok-Some.file ∷ []) c.files.invariant.heads
+          (AllHaveHeads-one c.args.options.now c.args.date.now c.in-Ok-Some.file heads));
       same = IsSameFolder-trans (g.F.Folder.tells c.args.folder.now) (g.F.Folder.tells c.files.folder) (g.F.Folder.tells c.next_file.new.folder)
           c.files.invariant.same c.in-Ok-Some.ensures.same;
       same_faults = c.next_file.ensures.cause.stays (λ fails. (cc)) ∙ c.files.invariant.same_faults;

@@ -1,4 +1,4 @@
-use Rattle.std.proofs.Common.{◌≡◌, Some, get_or, sym, ap, ◌∙◌, arith}
+use Rattle.std.proofs.Common.{◌≡◌, Some, not, get_or, sym, ap, ◌∙◌, arith}
 use Rattle.sws_site.specs.declared.stored.StoredFile.{StoredFile}
 use Rattle.sws_site.specs.Files.{file_named}
 use Rattle.sws_site.specs.Fixed.{not_found_name}
@@ -24,10 +24,10 @@ returns-in-Some c =
     let place : c.in-Some.place.now ≡ found.0 = (let s = found.1 in omega arith) in
     ap (λ (f : StoredFile). Some (file_of f)) (c.index-files-place.is ∙ ap (λ n. get_or files n file) place)
     ∙ sym (found.3 file)
-    ∙ sends-kept c.args.options.sends_not_found_page (file_named not_found_name (files_of files)) c.if-not-options.false
+    ∙ sends-kept c.args.options.now.sends_not_found_page (file_named not_found_name (files_of files)) (ap not c.if-not-options.false)
 
 pub returns-in-None : goal.returns-in-None
 returns-in-None c =
     let files = c.args.files.now in
     sym (place_from-none files 0 not_found_name (sym (c.in-None.ensures.value ∙ c.requires not_found_name)))
-    ∙ sends-kept c.args.options.sends_not_found_page (file_named not_found_name (files_of files)) c.if-not-options.false
+    ∙ sends-kept c.args.options.now.sends_not_found_page (file_named not_found_name (files_of files)) (ap not c.if-not-options.false)

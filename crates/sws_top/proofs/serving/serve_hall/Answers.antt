@@ -12,7 +12,8 @@ write_end-fault-requires g c = λ ok.
     let ended = c.talk_all-ended.result in
     let few = opened_few x c.args.world c.args.how.now.port c.args.how.now.connections c.open.new.self c.in-Ready.ensures c.requires.connections.1 in
     subst CanSumUp (sym c.deref-2.ensures.value)
-    (can_sum_up x g.W.Link.Link _ c.args.how.now.shape (g.K.Talk.contents_of c.args.hall) c.open.new.self c.args.how.now.log ended c.talk_all-ended.ensures.leaves few ok)
+    (can_sum_up x g.W.Link.Link _ c.args.how.now.shape (g.K.Talk.contents_of c.args.hall) c.open.new.self c.args.how.now.log ended
+    (c.little_counts.ensures.input (g.K.Talk.contents_of c.args.hall)) (c.little_counts.ensures.output (g.K.Talk.contents_of c.args.hall)) c.talk_all-ended.ensures.leaves few ok)
 
 pub returns-clause-served : goal.returns-clause-served
 returns-clause-served g c =

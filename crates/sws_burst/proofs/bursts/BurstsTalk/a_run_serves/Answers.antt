@@ -1,11 +1,10 @@
-use Rattle.std.proofs.Common.{◌≡◌, sym, subst, Option, List, ◌∷◌, option_map, false}
+use Rattle.std.proofs.Common.{◌∷◌, option_map, false}
 use Rattle.sws_link.specs.Scripts.{Script}
-use Rattle.sws_steps.specs.declared.Handler.{Handler}
 use Rattle.sws_steps.specs.declared.Handler.TheVariants as handler
 use Rattle.sws_steps.specs.Path.{TakesOff}
 use Rattle.sws_steps.specs.Talks.{due, path_to_come, StepsServed}
 use Rattle.sws_steps.proofs.Runs.PathLemmas.{unless-map}
-use Rattle.sws_burst.specs.Bursts.{HasBurst, bursts_from, bursts_of, plain_steps, unlogged}
+use Rattle.sws_burst.specs.Bursts.{bursts_from, bursts_of, plain_steps, unlogged}
 use Rattle.sws_burst.proofs.BurstLemmas.{bursts-due, bursts-took, plain-served}
 use Rattle.sws_burst.proofs.bursts.BurstsTalk.a_run_serves.Goals as goal
 

@@ -1,9 +1,7 @@
-use Rattle.std.specs.Prelude.{Option, Some, List}
-use Rattle.std.proofs.Common.{◌≡◌, ◌∷◌, ◌∙◌, ℕ, zero, suc, ◌-◌, inl, inr, refl, sym, ap, subst, arith, true≢false}
-use Rattle.sws_steps.specs.declared.Handler.{Handler}
+use Rattle.std.proofs.Common.{◌∷◌, ◌∙◌, ◌-◌, inl, inr, sym, ap, subst, arith, true≢false}
 use Rattle.sws_steps.specs.declared.Handler.TheVariants as handler
 use Rattle.sws_steps.specs.Path.{due_after}
-use Rattle.sws_steps.specs.Talks.{HasNoStep, due, reported_next}
+use Rattle.sws_steps.specs.Talks.{HasNoStep, due}
 use Rattle.sws_burst.specs.Bursts.{is_quiet, is_ready}
 use Rattle.sws_burst.proofs.BurstLemmas.{Bursting, burst-began, burst-goes-on, burst-ran, no-step, not-at-once}
 use Rattle.sws_burst.proofs.bursts.BurstsTalk.step.Goals as goal

@@ -1,4 +1,4 @@
-use Rattle.std.specs.Prelude.{◌≡◌, ◌<◌, ◌∷◌, List, Option, Some}
+use Rattle.std.specs.Prelude.{◌≡◌, ◌<◌, List, Some}
 use Rattle.sws_steps.specs.declared.End.{End}
 use Rattle.sws_steps.specs.declared.Handler.{Handler}
 use Rattle.sws_steps.specs.Talks.{HasNoStep, due, reported_next}

@@ -1,0 +1,7 @@
+use Rattle.std.proofs.Common.{◌≡◌, drop}
+use Rattle.std.specs.List.{list_all}
+use Rattle.sws_answer.specs.Framing.{is_host_byte}
+use Rattle.sws_answer.proofs.framing.are_host_bytes.Given as goal
+
+abbrev pub invariant-loop-byte : goal.invariant-loop-byte
+invariant-loop-byte l = list_all is_host_byte (drop l.byte-index l.value) ≡ list_all is_host_byte l.value

@@ -1,0 +1,7 @@
+use Rattle.std.proofs.Common.{◌≡◌, drop}
+use Rattle.std.specs.Char.{is_ascii_alphanumeric}
+use Rattle.std.specs.List.{list_all}
+use Rattle.sws_site.proofs.own_types.are_letters_or_digits.Given as goal
+
+abbrev pub invariant-loop-byte : goal.invariant-loop-byte
+invariant-loop-byte l = list_all is_ascii_alphanumeric (drop l.byte-index l.bytes) ≡ list_all is_ascii_alphanumeric l.bytes

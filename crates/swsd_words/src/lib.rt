@@ -1,0 +1,9 @@
+//! The words of the program `swsd`.
+//!
+//! [`read_order`] makes an [`Order`] of them, by `clap`, or says why it can't ([`WordsFault`]).
+#![tactic(auto)]
+
+mod additions;
+mod order;
+
+pub use order::{Order, WordsFault, read_order};
