@@ -23,6 +23,11 @@ With --fewer also what still stands there, but less often. A text that now stand
 isn't gone. What it prints as gone has been dropped or is written otherwise, and whoever did so says which. The status is 1 where something
 is gone, or where the values are fewer than they were.
 
+The data of the stored runs counts too, since a case that stands there needs no code: a text or a number that stands in the `stdin`, the
+`args` or the `stdout` of a crate of the name run_.. isn't gone, and each of their lines is a value. Their lines are read as `run_cases`
+reads them, so a text stands there also where it is what several of them put together, or what they show. A variant stands there by the
+word or the line that is printed for it.
+
 It wants git alone, and takes a second.
 """
 import collections
@@ -49,6 +54,17 @@ LENGTH = re.compile(r":\s*&?(?:'static )?\[[^={}\n]*?;\s*[0-9_]+\]\s*=")
 CLAUSE = re.compile(r"\b(?:requires|ensures|ghost(?: \w+)?(?: =)?|ghost use [^{};]*)\*?(?: [\w-]+)? \{(?:[^{}]|\{[^{}]*\})*\}")
 IMPORT = re.compile(r"^\s*(?:ghost |pub(?:\([a-z]+\))? )*use [^;]*;", re.M)
 ASSERT = re.compile(r"\b(?:assert|assert_eq|assert_ne|panic)!\(|\brt\.panic\(")
+PRINTED = {
+    "End::Done": "done", "End::Fault": "fault", "End::Idle": "idle", "SiteLimit::Files": "more than 4096 files",
+    "SiteLimit::Name": "is too long", "TopFault::Usage": "status 2 ", "WordFault::Usage": "end 2 ", "TopFault::BadScript": "status 3 ",
+    "ScriptFault::Bad": "status 3 ", "TopFault::ReadFault": "status 4 ", "TopFault::WriteFault": "status 5 ",
+    "TopFault::WorldFault": "status 6 ", "TopFault::SiteFull": "status 8 ", "SiteFault::TooManyFiles": "status 8 ",
+    "SiteFault::LongName": "status 8 ", "SiteFault::Fault": "status 4 ", "TopFault::TooMany": "status 9 ", "ScriptFault::TooMany": "status 9 ",
+    "TopFault::BadJournal": "status 10 ", "CheckFault::BadJournal": "status 10 ", "TopFault::NotLegal": "status 11 ",
+    "CheckFault::NotLegal": "status 11 ", "TopFault::NotDrained": "status 12 ", "CheckFault::NotDrained": "status 12 ",
+}
+HEX = re.compile(r"\\x[0-9a-f]{2}")
+SIGNS = {"n": b"\n", "r": b"\r", "t": b"\t", "\\": b"\\", "~": b"~"}
 NO_NAME = {"if", "match", "while", "for", "in", "return", "let", "fn", "mut", "ref", "else", "move", "Some", "Ok", "Err", "None"}
 
 
@@ -126,6 +142,77 @@ def found_in(text):
     return found, rows_in(tokens), own, (text.count("#[test]"), len(ASSERT.findall(text)))
 
 
+def bytes_of_text(text):
+    """The bytes for which a text of a script stands."""
+    out, at = bytearray(), 0
+    while at < len(text):
+        if text[at] == "~":
+            out += b"\r\n"
+        elif HEX.match(text, at):
+            out += bytes.fromhex(text[at + 2 : at + 4])
+            at += 3
+        elif text[at] == "\\" and text[at + 1 : at + 2] in SIGNS:
+            out += SIGNS[text[at + 1]]
+            at += 1
+        else:
+            out += text[at].encode()
+        at += 1
+    return bytes(out)
+
+
+def bytes_of_literal(token):
+    """The bytes of a string of the code."""
+    body = re.sub(r"\\\n\s*", "", token.removeprefix("b"))[1:-1]
+    sign = lambda it: bytes.fromhex(it[2:]).decode("latin-1") if it[1] == "x" else {"0": "\0", "'": "'", '"': '"'}.get(it[1]) or SIGNS[it[1]].decode()
+    plain = re.sub(r"\\(?:x[0-9a-fA-F]{2}|[nrt\\0'\"])", lambda it: sign(it.group()), body)
+    return plain.encode("latin-1") if "\\x" in body else plain.encode()
+
+
+class Stored:
+    """The data of the stored runs: its lines, and the bytes that they put together or show."""
+
+    def __init__(self):
+        self.lines, self.bytes, self.numbers = 0, [], set()
+        for crate in sorted(os.listdir(f"{TOP}/crates")):
+            for name in ("args", "stdin", "stdout") if crate.startswith("run_") else ():
+                path = f"{TOP}/crates/{crate}/{name}"
+                if os.path.exists(path):
+                    with open(path, encoding="utf-8") as it:
+                        self.read(it.read())
+        self.all = b"\0".join(self.bytes)
+
+    def read(self, text):
+        together = b""
+        for line in text.split("\n"):
+            word, _, rest = line.partition(" ")
+            times, _, more = rest.partition(" ")
+            piece = None
+            if word == ">":
+                piece = rest.encode() + b"\n"
+            elif word == "put":
+                piece = bytes_of_text(more) * min(int(times), 100)
+            elif word == "|":
+                piece = bytes_of_text(rest)
+            if piece is None and together:
+                inner = b"".join(bytes_of_text(it[2:]) for it in together.decode("latin-1").split("\n") if it.startswith("| "))
+                self.bytes += [together, inner]
+                together = b""
+            together += piece or b""
+            self.bytes += [line.encode(), bytes_of_text(rest), bytes_of_text(more), bytes_of_text(rest.removeprefix("| ").removeprefix("send "))]
+            self.lines += bool(line)
+            self.numbers.update(re.findall(r"[0-9]+", line))
+
+    def has(self, kind, it):
+        if kind == "number":
+            return it in self.numbers
+        if kind == "variant":
+            return it in PRINTED and PRINTED[it].encode() in self.all
+        if kind != "text" or it[:1] not in ('"', "b"):
+            return False
+        text = bytes_of_literal(it)
+        return any(form in self.all for form in (text, text.replace(b"~", b"\r\n"), text.replace(b" ", b"\n")))
+
+
 class Tests:
     """What the test code of a crate has."""
 
@@ -183,9 +270,9 @@ def is_in_pieces(text, texts):
     return len(whole) > 1 and len(whole) in ends
 
 
-def compared(crate, old, new, elsewhere, fewer):
+def compared(crate, old, new, elsewhere, stored, fewer):
     """Prints what has become of the tests of a crate, and returns how many things are gone."""
-    gone = 0
+    gone, moved, kept = 0, 0, 0
     values_then, values_now = old.values(), new.values()
     print(f"{crate}: tests {old.tests} then, {new.tests} now; rows {old.rows}, {new.rows}; ", end="")
     print(f"asserts {old.asserts}, {new.asserts}; values {values_then}, {values_now}")
@@ -196,15 +283,19 @@ def compared(crate, old, new, elsewhere, fewer):
             left = new.found[kind][it]
             if left == 0 and kind == "text" and is_in_pieces(it, new.found[kind]):
                 print(f"    in pieces: {it}")
+            elif left == 0 and not elsewhere[kind][it] and stored.has(kind, it):
+                kept += 1
             elif left == 0:
-                there = " (it stands in another crate)" if elsewhere[kind][it] else ""
-                print(f"    gone: {kind} {it}{there}")
-                gone += not there
+                moved += elsewhere[kind][it] > 0
+                if not elsewhere[kind][it]:
+                    print(f"    gone: {kind} {it}")
+                    gone += 1
             elif fewer and left < count:
                 print(f"    fewer: {kind} {it}: {count} then, {left} now")
-    if values_now < values_then:
-        print("    fewer values than there were")
-        gone += 1
+    if moved:
+        print(f"    in another crate: {moved}")
+    if kept:
+        print(f"    in the data of a stored run: {kept}")
     return gone
 
 
@@ -213,14 +304,19 @@ def main():
     if not words or words[0].startswith("-"):
         print(__doc__)
         return 2
-    before, after, gone = then(words[0]), now(), 0
+    before, after, stored, gone = then(words[0]), now(), Stored(), 0
     everywhere = {kind: collections.Counter() for kind in KINDS}
     for it in after.values():
         for kind in KINDS:
             everywhere[kind].update(it.found[kind])
     for crate in sorted(set(before) | set(after)):
         if not words[1:] or crate in words[1:]:
-            gone += compared(crate, before[crate], after[crate], everywhere, "--fewer" in sys.argv)
+            gone += compared(crate, before[crate], after[crate], everywhere, stored, "--fewer" in sys.argv)
+    values_then, values_now = (sum(it.values() for it in list(tests.values())) for tests in (before, after))
+    print(f"values in all: {values_then} then, {values_now} now in code, and {stored.lines} lines in stored runs")
+    if values_now + stored.lines < values_then:
+        print("fewer values than there were")
+        gone += 1
     print(f"{gone} gone")
     return 1 if gone else 0
 

@@ -17,6 +17,7 @@ import resource
 import select
 import shutil
 import socket
+import subprocess
 import sys
 import tempfile
 import threading
@@ -302,9 +303,97 @@ def redirects(_):
     yield status == 0 and not wrong, f"{len(REDIRECTS)} targets, otherwise answered: {wrong[:3]} ({told})"
 
 
-CASES = [bursts, after_the_stop, dates, tricklers, moving_downloads, held_lanes, unread_files, bytes_in_turn, redirects]
+# Words that add to responses; and what of each answer: a target, more lines of the request, its status, its type, and whether it may be kept.
+ADDED = ["--header", "X-Frame-Options: DENY", "--header", "Content-Security-Policy: default-src 'self'; img-src *", "--header", "Vary: Accept", "--header",
+         "vary: Origin", "--cache", "3600", "--type", "txt=text/plain; charset=utf-8", "--type", "log=text/x-log", "--type", "TXT=text/html"]
+ADDED_LINES = [b"X-Frame-Options: DENY", b"Content-Security-Policy: default-src 'self'; img-src *", b"Vary: Accept", b"vary: Origin"]
+ADDED_TO = [
+    (b"/a.txt", b"", b"200", b"text/plain; charset=utf-8", True), (b"/a.txt", b"Range: bytes=1-2\r\n", b"206", b"text/plain; charset=utf-8", True),
+    (b"/a.txt", b"If-Modified-Since: Fri, 31 Dec 9999 23:59:59 GMT\r\n", b"304", None, True), (b"/a.txt", b"Range: bytes=10-\r\n", b"416", b"text/plain", False),
+    (b"/docs", b"", b"301", b"text/plain", False), (b"/none", b"", b"404", b"text/plain", False), (b"/b.log", b"", b"200", b"text/x-log", True),
+    (b"/c.css", b"", b"200", b"text/css", True), (b"/a.txt", b"Host: twice\r\n", b"400", b"text/plain", False),
+]
 
-QUICK = [bursts, after_the_stop, dates, tricklers, unread_files, redirects]
+# Words that are refused, and how what is said of them ends.
+REFUSED = [
+    (["--header", "X"], "expected a name, a colon, a space and a value"), (["--header", "X:y"], "expected a name, a colon, a space and a value"),
+    (["--header", "X y: z"], "its name is no token"), (["--header", ": z"], "its name is no token"),
+    (["--header", "X: y\r\nZ: z"], "a byte that isn't visible ASCII"), (["--header", "X: y\rz"], "a byte that isn't visible ASCII"),
+    (["--header", "X:  y"], "a byte that isn't visible ASCII"), (["--header", "X: \u00e9"], "a byte that isn't visible ASCII"),
+    (["--header", "content-length: 1"], "the server itself sends or leaves out this field"),
+    (["--header", "Date: today"], "the server itself sends or leaves out this field"),
+    (["--header", "X: " + "y" * 1020], "more than 1,024 bytes"), (["--header", "X: " + "y" * 500, "--header", "X: " + "y" * 520], "more than 1,024 bytes"),
+    (["--type", "txt"], "expected an extension, '=' and a media type"), (["--type", ".txt=text/plain"], "its extension has more than letters and digits"),
+    (["--type", "txt=text"], "with one parameter at most"), (["--type", "txt=text/plain\r\nX: y"], "with one parameter at most"),
+    (["--type", "txt=text/" + "x" * 76], "with one parameter at most"), (["--cache=-1"], ""), (["--cache", "2147483648"], "is not in 0..=2147483647"),
+]
+
+
+def additions(_):
+    """Lines, types and an age of the owner's: they stand in the answers that they are meant for, in order, also in those with a part of a file and those that
+    refuse; and words that are no such line, type or age are named, with the cause."""
+    wrong = []
+    with site() as folder:
+        os.makedirs(os.path.join(folder, "docs"))
+        for name in ("docs/index.html", "b.log", "c.css"):
+            with open(os.path.join(folder, name), "wb") as file:
+                file.write(b"here")
+        with Server(folder, *ADDED) as server:
+            for target, lines, code, media_type, is_kept in ADDED_TO:
+                answer = server.ask(HEAD.replace(b"/a.txt", target).replace(b"\r\n\r\n", b"\r\n" + lines + b"\r\n"))
+                head = answer.partition(b"\r\n\r\n")[0].split(b"\r\n")
+                named = [line[14:] for line in head if line.startswith(b"Content-Type: ")]
+                kept = [line for line in head if line.startswith(b"Cache-Control:")] == ([b"Cache-Control: max-age=3600"] if is_kept else [])
+                if not (head[0].startswith(b"HTTP/1.1 " + code) and head[-4:] == ADDED_LINES and kept and named == ([media_type] if media_type else [])):
+                    wrong.append((target, lines, answer[:200]))
+            status, told = server.end()
+        for words, cause in REFUSED:
+            done = subprocess.run([staying.SWSD, folder, "--listen", "127.0.0.1:0", *words], capture_output=True, text=True, timeout=30)
+            if done.returncode != 2 or cause not in done.stderr or words[0].partition("=")[0] not in done.stderr:
+                wrong.append((words, done.returncode, done.stderr[:200]))
+    yield status == 0 and not wrong, f"{len(ADDED_TO)} answers, {len(REFUSED)} words that are refused, otherwise: {wrong[:3]} ({told})"
+
+
+# Lines of a request in place of its Host, and the status of its answer: what another server may read otherwise is refused.
+READ_TWICE = [
+    (b"Host: x", b"200"), (b"Host: [::1]:8080", b"200"), (b"Host:", b"200"), (b"Host: a b", b"400"), (b"Host: a/b", b"400"), (b"Host: a@b", b"400"),
+    (b"Host: x\r\nContent-Length: 0", b"200"), (b"Host: x\r\nContent-Length: 0\r\nContent-Length: 0", b"400"),
+    (b"Host: x\r\nContent-Length: 1, 1", b"400"), (b"Host: x\r\nContent-Length: -1", b"400"), (b"Host: x\r\nTransfer-Encoding: chunked", b"200"),
+    (b"Host: x\r\nTransfer-Encoding: chunked\r\nContent-Length: 1", b"400"),
+]
+
+
+def read_twice(_):
+    """Requests that another server may read otherwise: each is refused, and no byte behind it is answered."""
+    wrong = []
+    with site() as folder, Server(folder) as server:
+        for lines, status in READ_TWICE:
+            answer = server.ask(HEAD.replace(b"Host: x", lines) + HEAD)
+            if not answer.startswith(b"HTTP/1.1 " + status) or answer.count(b"HTTP/1.1 ") != 1:
+                wrong.append((lines, answer[:60]))
+        status, told = server.end()
+    yield status == 0 and not wrong, f"{len(READ_TWICE)} requests, otherwise answered: {wrong[:3]} ({told})"
+
+
+def many_answers(_):
+    """One connection that is asked without a pause: as many requests are answered as the words say, and the last answer closes."""
+    wrong, asked = [], HEAD.replace(b"Connection: close\r\n", b"")
+    with site() as folder:
+        for words, most in (([], 1000), (["--answers", "7"], 7), (["--input", str(5 * len(asked))], 5)):
+            with Server(folder, *words) as server:
+                answers = server.ask(asked * 1100).split(b"HTTP/1.1 ")[1:]
+                closing = [number for number, one in enumerate(answers, 1) if b"\r\nConnection: close\r\n" in one]
+                if len(answers) != most or (closing != [most] and "--input" not in words):
+                    wrong.append((words, len(answers), closing))
+                status, told = server.end()
+                if status != 0:
+                    wrong.append((words, status, told))
+    yield not wrong, f"three limits of a connection, otherwise answered: {wrong[:3]}"
+
+
+CASES = [bursts, after_the_stop, dates, tricklers, moving_downloads, held_lanes, unread_files, bytes_in_turn, redirects, additions, read_twice, many_answers]
+
+QUICK = [bursts, after_the_stop, dates, tricklers, unread_files, redirects, additions, read_twice, many_answers]
 
 
 def run(only="", is_quick=False):

@@ -4,6 +4,8 @@
     gate.py [NAME..] [--anew]     runs `rt ci` with these words at the top of this checkout, and notes what its processes cost
     gate.py --table [SINCE]       prints the table of docs/WORKING.md from what was noted (SINCE: seconds since 1970; default: all)
     gate.py --write [SINCE]       puts that table into docs/WORKING.md, between its two marks
+    gate.py --line [PROGRAM..]    prints the longest line of crates below these programs (default: sws_main and swsd), each of which waits
+                                  for the one before it, by the processor time of their proofs as it was noted
 
 Each second it looks at the processes below `rt ci` and adds up the processor time that each has used, by the crate that it checks and
 by kind:
@@ -151,6 +153,40 @@ def table(since):
     return "\n".join([*lines, row("**all**", whole)])
 
 
+def uses_by_crate():
+    uses = {}
+    with open(f"{TOP}/crates.txt", encoding="utf-8") as it:
+        for line in it:
+            head, colon, tail = line.split("#")[0].partition(":")
+            if colon:
+                uses[head.split()[0]] = tail.split()
+    return uses
+
+
+def longest_line(program):
+    """Returns the crates of the longest line that ends in a program, lowest first, with the seconds of each."""
+    cells, uses, known = noted()["cells"], uses_by_crate(), {}
+
+    def line_of(crate):
+        if crate not in known:
+            below = [line_of(it) for it in uses[crate] if it in uses]
+            before = max(below, key=lambda line: sum(cost for _, cost in line), default=[])
+            known[crate] = [*before, (crate, cells.get(f"{crate} proof", [0])[0])]
+        return known[crate]
+
+    return line_of(program)
+
+
+def lines(programs):
+    for program in programs:
+        print(f"| Crate | minutes, to `{program}` | together |\n|---|---:|---:|")
+        whole = 0
+        for crate, cost in longest_line(program):
+            whole += cost
+            print(f"| `{crate}` | {cost / 60:.1f} | {whole / 60:.1f} |")
+        print()
+
+
 def write(since):
     path = f"{TOP}/docs/WORKING.md"
     with open(path, encoding="utf-8") as it:
@@ -168,6 +204,9 @@ def main():
     if words[:1] in (["--table"], ["--write"]):
         since = float(words[1]) if words[1:] else 0
         print(table(since)) if words[0] == "--table" else write(since)
+        return 0
+    if words[:1] == ["--line"]:
+        lines(words[1:] or ["sws_main", "swsd"])
         return 0
     if words[:1] in (["-h"], ["--help"]):
         print(__doc__)
