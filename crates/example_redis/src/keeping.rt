@@ -10,17 +10,33 @@ use std::fs::{self, File};
 use std::io::{self, ErrorKind, Write};
 use sws_link::Link;
 
+/// Where the bytes of a file are written before they are put in its place.
+fn beside(rt: &HostRuntime, path: &str) -> io::Result<String> {
+    Ok(format!(in rt.alloc(); "{path}.new")?)
+}
+
+/// Makes the file in which a store is written at its end, so that a place where nobody can write is
+/// found before anybody is served.
+fn try_to_keep(rt: &HostRuntime, path: &str) -> io::Result<()> {
+    let beside = beside(rt, path)?;
+    let _file = File::create(rt, beside.as_str())?;
+    Ok(())
+}
+
 /// The cells that a store begins with: those of its file, where it has one that is there.
 ///
 /// # Errors
 ///
-/// As of [`Fault`].
+/// As of [`Fault`]: also where no file can be written beside this one.
 pub fn begin_store(rt: &HostRuntime, file: &Option<String>) -> Result<Vec<Values>, Fault>
     ensures { IfOk result (λ cells. length cells.items ≡ CELLS) }
 {
     let Some(path) = file else {
         return Ok(no_cells(rt.alloc())?);
     };
+    if let Err(error) = try_to_keep(rt, path.as_str()) {
+        return Err(Fault::File(error));
+    }
     match fs::read(rt, path.as_str()) {
         Ok(bytes) => load(rt.alloc(), bytes.as_slice()).map_err(Fault::Unsaved),
         Err(error) if error.kind() == ErrorKind::NotFound => Ok(no_cells(rt.alloc())?),
@@ -30,7 +46,7 @@ pub fn begin_store(rt: &HostRuntime, file: &Option<String>) -> Result<Vec<Values
 
 /// Writes a file beside another one, and puts it in its place once all of it is there.
 fn replace(rt: &HostRuntime, path: &str, bytes: &[u8]) -> io::Result<()> {
-    let beside = format!(in rt.alloc(); "{path}.new")?;
+    let beside = beside(rt, path)?;
     let mut file = File::create(rt, beside.as_str())?;
     file.write_all(bytes)?;
     file.sync_all()?;
