@@ -292,20 +292,25 @@ def number(count, noun):
     return f"{count:,} {noun}{'' if count == 1 else 's'}"
 
 
+KINDS = {"definition": "", "statement": "", "type": "the type ", "constant": "the constant ", "view": "the view of ", "trait": "of the trait ",
+         "impl": "of the impl "}
+
+
+def name_of(entry):
+    """An entry by its name, with its kind and the members that are used."""
+    members = f" ({', '.join(f'`{member}`' for member in entry.members)})" if entry.members else ""
+    return f"{KINDS[entry.kind]}`{entry.name}`{members}"
+
+
 def line_of(entry):
-    """An entry's line of the page."""
-    names = {"definition": "", "statement": "", "type": "the type ", "constant": "the constant ", "view": "the view of ", "trait": "of the trait ",
-             "impl": "of the impl "}
+    """An entry's line where it has one of its own."""
     where = f"{entry.line}" if entry.end == entry.line or entry.kind in ("trait", "impl") else f"{entry.line}–{entry.end}"
-    members = f": {', '.join(f'`{member}`' for member in entry.members)}" if entry.members else ""
     sentence = f": {entry.sentence()}" if entry.sentence() and entry.kind != "impl" else ""
-    if members and sentence:
-        sentence = f" ({entry.sentence()})"
-    return f"- {names[entry.kind]}`{entry.name}` ({where}){members}{sentence}"
+    return f"- {name_of(entry)} ({where}){sentence}"
 
 
 def listed(repository, items):
-    """The entries of a chain, file by file."""
+    """The entries of a chain, file by file, each with its words."""
     lines, here = [], None
     for entry in in_order(repository, entries_of(repository, items)):
         if entry.path != here:
@@ -313,6 +318,18 @@ def listed(repository, items):
             lines += ["", f"{link(here)}", ""]
         lines.append(line_of(entry))
     return lines[1:]
+
+
+def named(repository, items):
+    """The names of the entries of a chain, a line a file."""
+    lines, here = [], None
+    for entry in in_order(repository, entries_of(repository, items)):
+        if entry.path != here:
+            here = entry.path
+            lines.append(f"- {link(here)}: {name_of(entry)}")
+        else:
+            lines[-1] += f", {name_of(entry)}"
+    return lines
 
 
 class Page:
@@ -369,7 +386,7 @@ class Page:
             lines += ["", *part.text] if part.text else []
             lines += [line for core in CORES[name] for line in ("", self.way(core, parts))] if part is parts[0] else []
             lines += ["", self.said(part, new)]
-            lines += ["", *listed(self.repository, new)] if new else []
+            lines += ["", *named(self.repository, new)] if new else []
             self.first.update((id(item), name) for item in new)
             self.base |= part.chain.base
         if shared:
@@ -449,7 +466,7 @@ believes two things: that the definitions which its clauses name mean what they 
 This page lists both; nothing in `proofs/` has to be read. [READING.md](READING.md) says how to read a clause and a definition.
 
 For each of eight promises, of public calls, it gives the clauses word for word, and then the chain: every definition that they name, that those name in
-turn, and so on, each behind those that it needs. A line has the name, where it stands, and the first sentence of the comment above it. What
+turn, and so on, file by file, each behind those that it needs. [DEFINITIONS.md](DEFINITIONS.md) has their words. What
 several promises need is listed once, under the first of them. Beside the definitions there are types of the code, whose fields and variants
 contracts see as they are; views, which are what contracts see of a type with private fields; and ghost members of traits, which are values
 that each implementation gives for contracts alone; what such a member means is said by the contracts of its trait's functions, as those of

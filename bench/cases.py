@@ -56,12 +56,11 @@ IMPORT = re.compile(r"^\s*(?:ghost |pub(?:\([a-z]+\))? )*use [^;]*;", re.M)
 ASSERT = re.compile(r"\b(?:assert|assert_eq|assert_ne|panic)!\(|\brt\.panic\(")
 PRINTED = {
     "End::Done": "done", "End::Fault": "fault", "End::Idle": "idle", "SiteLimit::Files": "more than 4096 files",
-    "SiteLimit::Name": "is too long", "TopFault::Usage": "status 2 ", "WordFault::Usage": "end 2 ", "TopFault::BadScript": "status 3 ",
-    "ScriptFault::Bad": "status 3 ", "TopFault::ReadFault": "status 4 ", "TopFault::WriteFault": "status 5 ",
-    "TopFault::WorldFault": "status 6 ", "TopFault::SiteFull": "status 8 ", "SiteFault::TooManyFiles": "status 8 ",
-    "SiteFault::LongName": "status 8 ", "SiteFault::Fault": "status 4 ", "TopFault::TooMany": "status 9 ", "ScriptFault::TooMany": "status 9 ",
-    "TopFault::BadJournal": "status 10 ", "CheckFault::BadJournal": "status 10 ", "TopFault::NotLegal": "status 11 ",
-    "CheckFault::NotLegal": "status 11 ", "TopFault::NotDrained": "status 12 ", "CheckFault::NotDrained": "status 12 ",
+    "SiteLimit::Name": "is too long", "TopFault::Usage": "ended 2 ", "TopFault::BadScript": "ended 3 ", "ScriptFault::Bad": "ended 3 ",
+    "TopFault::ReadFault": "ended 4 ", "SiteFault::Fault": "ended 4 ", "TopFault::WriteFault": "ended 5 ", "RunFault::Write": "status 5",
+    "TopFault::WorldFault": "ended 6 ", "TopFault::SiteFull": "ended 8 ", "TopFault::TooMany": "ended 9 ", "ScriptFault::TooMany": "ended 9 ",
+    "TopFault::BadJournal": "ended 10 ", "CheckFault::BadJournal": "ended 10 ", "TopFault::NotLegal": "ended 11 ",
+    "CheckFault::NotLegal": "ended 11 ", "TopFault::NotDrained": "ended 12 ", "CheckFault::NotDrained": "ended 12 ",
 }
 HEX = re.compile(r"\\x[0-9a-f]{2}")
 SIGNS = {"n": b"\n", "r": b"\r", "t": b"\t", "\\": b"\\", "~": b"~"}
@@ -182,14 +181,16 @@ class Stored:
         self.all = b"\0".join(self.bytes)
 
     def read(self, text):
-        together = b""
+        together, is_text = b"", False
+        self.bytes.append(text.encode())
         for line in text.split("\n"):
             word, _, rest = line.partition(" ")
             times, _, more = rest.partition(" ")
             piece = None
-            if word == ">":
-                piece = rest.encode() + b"\n"
-            elif word == "put":
+            if is_text:
+                is_text = line != "."
+                piece = line.encode() + b"\n" if is_text else None
+            elif word == "more":
                 piece = bytes_of_text(more) * min(int(times), 100)
             elif word == "|":
                 piece = bytes_of_text(rest)
@@ -197,6 +198,9 @@ class Stored:
                 inner = b"".join(bytes_of_text(it[2:]) for it in together.decode("latin-1").split("\n") if it.startswith("| "))
                 self.bytes += [together, inner]
                 together = b""
+            if word == "input" and piece is None:
+                piece = bytes_of_text(rest)
+            is_text |= line == "text"
             together += piece or b""
             self.bytes += [line.encode(), bytes_of_text(rest), bytes_of_text(more), bytes_of_text(rest.removeprefix("| ").removeprefix("send "))]
             self.lines += bool(line)

@@ -580,12 +580,17 @@ class CodeFile:
                 reader.free.append((name, ""))
 
     def contract(self, name):
-        """The contract of a function."""
+        """The contract of the first function of this name."""
         found = re.search(r"\bfn " + name + r"\b", self.code)
         if not found:
             raise SystemExit(f"definitions: {self.path} has no function {name}")
-        at = self.code.index("(", found.end())
-        while self.code[found.end():at].count("<") > self.code[found.end():at].replace("->", "").count(">"):
+        return self.contract_at(name, found.start())
+
+    def contract_at(self, name, start):
+        """The contract of the function of this name whose `fn` stands here."""
+        end = start + len(f"fn {name}")
+        at = self.code.index("(", end)
+        while self.code[end:at].count("<") > self.code[end:at].replace("->", "").count(">"):
             at = self.code.index("(", at + 1)
         opened, closed = at, block_end(self.code, at)
         at, clauses = closed, []
@@ -598,15 +603,77 @@ class CodeFile:
             else:
                 at += 1
         end = clauses[0][3][0] if clauses else at
-        parts = [self.code[found.start():opened], self.code[opened + 1:closed - 1], *self.code[closed:end].partition("where")[::2]]
-        return Contract(self, name, found.start(), parts, clauses)
+        parts = [self.code[start:opened], self.code[opened + 1:closed - 1], *self.code[closed:end].partition("where")[::2]]
+        return Contract(self, name, start, parts, clauses, at)
+
+    def blocks(self):
+        """The impls and traits at the edge of the file, each with its word, what it is of, and its stretch of code."""
+        for found in re.finditer(r"^(?:pub(?:\([a-z]+\))? )?(impl|trait)\b", self.code, re.M):
+            brace = self.code.index("{", found.end())
+            head = self.without_bounds(re.sub(r"\s+", " ", self.code[found.start(1):brace].split(" where")[0]))
+            name = re.match(r"impl\s*(?:([\w:]+)(?:<.*>)? for )?(\w+)|trait (\w+)", head)
+            if name:
+                yield Block(name.group(3) or name.group(2), name.group(1) if found.group(1) == "impl" else name.group(3),
+                            found.group(1), brace, block_end(self.code, brace))
+
+    def functions(self):
+        """The functions of the file in their order, without those inside others."""
+        blocks = list(self.blocks())
+        for found in re.finditer(r"^([ ]*)((?:pub(?:\([a-z]+\))? )?)(?:const )?(fn) (\w+)", self.code, re.M):
+            start = found.start(3)
+            block = next((block for block in blocks if block.start < start < block.end), None)
+            if len(found.group(1)) <= (4 if block else 0):
+                yield Function(self, block, found.group(4), start, found.group(2).strip())
+
+
+class Block:
+    """An impl or a trait: its type or its own name, the trait (none for an impl of a type alone), its word and its stretch of code."""
+
+    def __init__(self, name, trait, word, start, end):
+        self.name, self.trait, self.word, self.start, self.end = name, trait, word, start, end
+
+
+class Function:
+    """A function of a file of src/, as `Type::name`."""
+
+    def __init__(self, file, block, name, start, shown):
+        self.file, self.block, self.start = file, block, start
+        self.name = f"{block.name}::{name}" if block else name
+        self.line = file.line_of(start)
+        self.is_marked = shown == "pub" or block is not None and block.word == "trait"
+        self.is_shared = self.is_marked or shown.startswith("pub")
+        self.contract = file.contract_at(name, start)
+
+    def is_public(self, names, modules):
+        """Whether it can be called by what a crate hands out: it is marked so, or an impl of a trait gives it clauses of its own."""
+        shown = (self.block.name if self.block else self.name) in names
+        shown = shown or os.path.basename(self.file.path).removesuffix(".rt") in modules
+        given = self.block is not None and self.block.word == "impl" and self.block.trait is not None
+        return shown and (self.is_marked or given and bool(self.contract.clauses))
+
+    def ensures(self):
+        """Whether it promises something."""
+        return any(clause[0] == "ensures" for clause in self.contract.clauses)
+
+    def end(self):
+        """The line in which its body ends."""
+        return self.file.line_of(item_end(self.file.code, self.contract.body) - 1)
+
+    def words(self):
+        """What its comment says first."""
+        return self.file.item("function", self.name, self.start, self.start + 1).comment
+
+    def may_wait(self):
+        """Whether the bounds let it wait, or run for ever."""
+        return re.search(r"\b(Wait|Net)\b", self.contract.generics + self.contract.bounds) is not None
 
 
 class Contract:
-    """A function's contract: its generics, parameters, result and bounds, and its clauses, each with keyword, name, text inside and place."""
+    """A function's contract: its generics, parameters, result and bounds; its clauses, each with keyword, name, text inside and place;
+    and where its body begins."""
 
-    def __init__(self, file, name, start, parts, clauses):
-        self.file, self.name, self.start, self.clauses = file, name, start, clauses
+    def __init__(self, file, name, start, parts, clauses, body):
+        self.file, self.name, self.start, self.clauses, self.body = file, name, start, clauses, body
         self.generics, self.parameters, self.result, self.bounds = parts
         self.line = file.line_of(start)
 
@@ -783,3 +850,59 @@ class Repository:
             if found is not None:
                 return found
         return self.in_code(item.scope, name)
+
+    def page_of(self, crate):
+        """The page of a crate: the paragraphs of the comment at the head of its root file."""
+        file = self.root_of(crate)
+        lines, in_code = [], False
+        for line in file.lines if file else []:
+            if not line.startswith("//!"):
+                break
+            lines.append(line[3:].strip())
+        return [" ".join(part.split("\n")) for part in "\n".join(lines).split("\n\n")]
+
+    def root_of(self, crate):
+        """The root file of a crate."""
+        return next((self.file(os.path.join("crates", crate, "src", name)) for name in ("lib.rt", "main.rt")
+                     if os.path.isfile(os.path.join(self.top, "crates", crate, "src", name))), None)
+
+    def sources_of(self, crate):
+        """The files of a crate's src/ but those of its tests, by name."""
+        top = os.path.join(self.top, "crates", crate, "src")
+        for at, folders, names in sorted(os.walk(top)):
+            folders.sort()
+            for name in sorted(names):
+                path = os.path.relpath(os.path.join(at, name), self.top)
+                if name.endswith(".rt") and "/tests" not in path:
+                    yield self.file(path)
+
+    def public_names(self, crate):
+        """What a crate hands out: the names that its root file uses publicly, and the modules that it makes public; of a program nothing."""
+        root = self.root_of(crate)
+        if root is None or root.path.endswith("main.rt"):
+            return set(), set()
+        names, modules = set(), set(re.findall(r"^pub mod (\w+);", root.code, re.M))
+        for found in re.finditer(r"^pub use ([^;]+);", root.code, re.M):
+            names |= set(re.findall(r"\w+", found.group(1)))
+        return names | set(re.findall(r"^pub (?:struct|enum|trait|type|(?:const )?fn) (\w+)", root.code, re.M)), modules
+
+    def public_functions(self, crate):
+        """The functions that another crate can call, and those of public traits, in the order of files and lines. Where these ensure nothing,
+        as in a program, those that promise something to the other files of the crate."""
+        names, modules = self.public_names(crate)
+        functions = [function for file in self.sources_of(crate) for function in file.functions()]
+        found = [function for function in functions if function.is_public(names, modules)]
+        if any(function.ensures() for function in found):
+            return found
+        return [function for function in functions if function in found or function.is_shared and function.contract.clauses]
+
+    def defined_by(self, item):
+        """The definitions of specs/ that an item's text names, each once, in their order."""
+        found = {}
+        if item.kind != "clause":
+            self.read(item)
+        for name, field in item.free:
+            what = self.stands_for(item, name, field)
+            if isinstance(what, Item) and what.kind in ("definition", "statement"):
+                found[id(what)] = what
+        return list(found.values())

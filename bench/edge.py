@@ -391,9 +391,172 @@ def many_answers(_):
     yield not wrong, f"three limits of a connection, otherwise answered: {wrong[:3]}"
 
 
-CASES = [bursts, after_the_stop, dates, tricklers, moving_downloads, held_lanes, unread_files, bytes_in_turn, redirects, additions, read_twice, many_answers]
+# Limits of a site of four files of ten bytes, and what is said where it has more.
+SITES = [(["--files", "4", "--bytes", "40"], None), (["--files", "3"], "4 files or more, and --files"), (["--bytes", "39"], "file 4 the folder has more bytes than --bytes")]
 
-QUICK = [bursts, after_the_stop, dates, tricklers, unread_files, redirects, additions, read_twice, many_answers]
+
+def site_limits(_):
+    """A folder of four files: it is served where the limits allow it, refused by 8 and the option's name where they don't, also where a file comes later; and
+    limits that are none are named."""
+    wrong = []
+    with site() as folder:
+        for name in ("b.txt", "c.txt", "d.txt"):
+            put(folder, name, b"0123456789")
+        for words, cause in SITES:
+            with Server(folder, *words) as server:
+                if cause is None:
+                    if not server.ask().endswith(b"\r\n\r\n0123456789"):
+                        wrong.append((words, "isn't served"))
+                    put(folder, "e.txt", b"e")
+                    until = time.monotonic() + 5
+                    while "5 files or more" not in server.lines() and time.monotonic() < until:
+                        time.sleep(0.1)
+                    if "the old files stay" not in server.lines() or not server.ask().endswith(b"\r\n\r\n0123456789") or server.end()[0] != 0:
+                        wrong.append((words, server.lines()))
+                    os.remove(os.path.join(folder, "e.txt"))
+                elif server.child.wait(timeout=30) != 8 or cause not in server.lines():
+                    wrong.append((words, server.child.returncode, server.lines()))
+        for words in (["--files", "0"], ["--files", "1048577"], ["--bytes", "0"], ["--bytes", "8589934593"]):
+            done = subprocess.run([staying.SWSD, folder, "--listen", "127.0.0.1:0", *words], capture_output=True, text=True, timeout=30)
+            if done.returncode != 2 or f"{words[1]} is not in 1..=" not in done.stderr:
+                wrong.append((words, done.returncode, done.stderr))
+    yield not wrong, f"{len(SITES)} limits of a site, a file too many later, and 4 words that are refused, otherwise: {wrong[:2]}"
+
+
+def answer_at(address, port):
+    with socket.create_connection((address, port), timeout=30) as it:
+        it.sendall(HEAD)
+        got = b""
+        while piece := it.recv(1 << 16):
+            got += piece
+    return got
+
+
+def addresses(_):
+    """Several addresses: each is served, beside one whose clients never end; all are ended by the stop; one that somebody has is named, and too many are."""
+    wrong = []
+    with site() as folder, Server(folder, "--listen", "127.0.0.2:0", "--listen", "127.0.0.3:0", "--lanes", "2", "--accepting", "1", "--connections", "20") as server:
+        is_over = threading.Event()
+        beside = threading.Thread(target=trickle, args=(server, 4, is_over))
+        beside.start()
+        until = time.monotonic() + 10
+        while len(places := re.findall(r"listening at ([\d.]+):(\d+):", server.lines())) < 3 and time.monotonic() < until:
+            time.sleep(0.05)
+        for _ in range(100):
+            for address, port in places:
+                if not answer_at(address, int(port)).endswith(b"\r\n\r\n0123456789"):
+                    wrong.append((address, port))
+        is_over.set()
+        beside.join()
+        taken = ":".join(places[1])
+        done = subprocess.run([staying.SWSD, folder, "--listen", "127.0.0.1:0", "--listen", taken], capture_output=True, text=True, timeout=30)
+        if done.returncode != 6 or f"can't listen at {taken}:" not in done.stderr:
+            wrong.append((done.returncode, done.stderr))
+        status, told = server.end()
+        for address, port in places:
+            with contextlib.suppress(ConnectionRefusedError):
+                socket.create_connection((address, int(port)), timeout=5).close()
+                wrong.append((address, port, "still listens"))
+        many = [word for number in range(17) for word in ("--listen", f"127.0.0.{number + 1}:0")]
+        done = subprocess.run([staying.SWSD, folder, *many], capture_output=True, text=True, timeout=30)
+        if done.returncode != 2 or "127.0.0.17:0" not in done.stderr:
+            wrong.append((done.returncode, done.stderr))
+    yield len(places) == 3 and status == 0 and not wrong, f"{len(places)} addresses, 100 requests each, otherwise: {wrong[:3]} ({told})"
+
+
+LINE = re.compile(r'127\.0\.0\.1 - - \[(\d\d/[A-Z][a-z]{2}/\d{4}:\d\d:\d\d:\d\d \+0000)\] "([^"]*)" (\d{3}) (\d+) "([^"]*)" "([^"]*)"')
+
+END = b"\r\nHost: x\r\nConnection: close\r\n"
+
+# what a client sends, and of its line the request, the code, the length of the body (none: it isn't looked at), the referer and the agent
+LOGGED = [
+    (b"GET /a.txt HTTP/1.1" + END + b"\r\n", ("GET /a.txt HTTP/1.1", "200", "10", "-", "-")),
+    (b"HEAD /a.txt HTTP/1.1" + END + b"\r\n", ("HEAD /a.txt HTTP/1.1", "200", "0", "-", "-")),
+    (b"GET /a.txt?q=1 HTTP/1.0\r\n\r\n", ("GET /a.txt?q=1 HTTP/1.0", "200", "10", "-", "-")),
+    (b"GET /none HTTP/1.1" + END + b"Referer: http://x/\r\nUser-Agent: me/1 (x; y)\r\n\r\n", ("GET /none HTTP/1.1", "404", None, "http://x/", "me/1 (x; y)")),
+    (b"GET /a.txt HTTP/1.1" + END + b"Range: bytes=2-4\r\n\r\n", ("GET /a.txt HTTP/1.1", "206", "3", "-", "-")),
+    (b'GET /a"b HTTP/1.1' + END + b'User-Agent: "\\\xff\t.\r\nREFERER: a" 200 1\r\n\r\n', (r"GET /a\x22b HTTP/1.1", "404", None, r"a\x22 200 1", r"\x22\x5C\xFF\x09.")),
+    (b"\r\n\r\nGET /a.txt HTTP/1.1" + END + b"\r\n", ("GET /a.txt HTTP/1.1", "200", "10", "-", "-")),
+    (b"\x16\x03\x01 no\x00thing\r\n\r\n", (r"\x16\x03\x01 no\x00thing", "400", None, "-", "-")),
+    (b"GET /" + b"a" * 8000 + b" HTTP/1.1" + END + b"\r\n", ("GET /" + "a" * 8000 + " HTTP/1.1", "404", None, "-", "-")),
+    (b"GET /" + b"a" * 9000 + b" HTTP/1.1" + END + b"\r\n", ("GET /" + "a" * 8187, "431", None, "-", "-")),
+]
+
+
+def is_soon(is_so, seconds=1.0):
+    """Whether it is so within so many seconds."""
+    until = time.monotonic() + seconds
+    while not is_so():
+        if time.monotonic() > until:
+            return False
+        time.sleep(0.02)
+    return True
+
+
+def log_lines(_):
+    """Requests of all kinds, one after another: each has its line within a second of its answer, and no bytes of a client make another."""
+    wrong = []
+    with site() as folder, tempfile.NamedTemporaryFile() as output, Server(folder, "--log", output=output.name) as server:
+        for number, (request, owed) in enumerate(LOGGED, 1):
+            server.ask(request)
+            if not is_soon(lambda: len(server.log()) >= number):
+                wrong.append((number, "no line after a second"))
+                break
+            line = LINE.fullmatch(server.log()[number - 1])
+            seen = line.groups()[1:] if line else server.log()[number - 1]
+            if not line or len(server.log()) != number or any(part is not None and part != it for part, it in zip(owed, seen)):
+                wrong.append((number, seen))
+            elif abs(calendar.timegm(time.strptime(line[1], "%d/%b/%Y:%H:%M:%S +0000")) - time.time()) > 2:
+                wrong.append((number, line[1]))
+        status, told = server.end()
+    yield status == 0 and not wrong, f"{len(LOGGED)} requests, otherwise logged: {str(wrong[:3])[:300]} ({told})"
+
+
+def log_under_load(is_quick):
+    """Connections that are asked again and again beside each other: as many lines as answers, before any generation ends."""
+    count = 500 if is_quick else 5_000
+    with site() as folder, tempfile.NamedTemporaryFile() as output, Server(folder, "--log", "--answers", "65535", output=output.name) as server:
+        answered, first = [], server.resident()
+
+        def ask(path):
+            request = HEAD.replace(b"a.txt", path).replace(b"Connection: close\r\n", b"")
+            got = server.ask(request * (count - 1) + HEAD.replace(b"a.txt", path))
+            answered.append(got.count(b"HTTP/1.1 200 OK"))
+
+        clients = [threading.Thread(target=ask, args=(path,)) for path in (b"a.txt", b"b.txt") * 2]
+        for client in clients:
+            client.start()
+        for client in clients:
+            client.join()
+        is_there = is_soon(lambda: len(server.log()) == 4 * count)
+        paths = [line.split(" ")[6] for line in server.log()]
+        ended, most = server.generations(), server.resident()
+        status, told = server.end()
+    is_right = status == 0 and answered == [count] * 4 and is_there and ended == 0 and paths.count("/a.txt") == paths.count("/b.txt") == 2 * count
+    yield is_right, f"4 connections of {count} requests: {answered} answered, {len(paths)} lines, {ended} generations had ended, resident {first} kB and {most} kB ({told})"
+
+
+def log_unwritten(_):
+    """A disk without room: that the log can't be written is said once, and the server goes on or stops, as it is told."""
+    for fault, owed in (("go", 0), ("stop", 5)):
+        with site() as folder, Server(folder, "--log", "--log-fault", fault, "--connections", "16", output="/dev/full") as server:
+            answered = sum(server.ask().endswith(b"0123456789") for _ in range(3))
+            is_said = is_soon(lambda: server.lines().count("standard output can't be written") == 1)
+            has_ended = is_soon(lambda: server.child.poll() is not None, 10 if fault == "stop" else 1)
+            if not has_ended:
+                answered += sum(server.ask().endswith(b"0123456789") for _ in range(3))
+                server.stop()
+            status, said = server.child.wait(timeout=60), server.lines()
+        lost = re.findall(r"[0-9]+ lines of the log were dropped", said)
+        is_right = is_said and said.count("can't be written") == 1 and status == owed and (answered, has_ended) == ((6, False) if fault == "go" else (3, True))
+        yield is_right, f"--log-fault {fault}: {answered} answered, status {status}, {'it ended by itself' if has_ended else 'it went on'}; {', '.join(lost)}"
+
+
+CASES = [bursts, after_the_stop, dates, tricklers, moving_downloads, held_lanes, unread_files, bytes_in_turn, redirects, additions, read_twice, many_answers,
+         site_limits, addresses, log_lines, log_under_load, log_unwritten]
+
+QUICK = [bursts, after_the_stop, dates, tricklers, unread_files, redirects, additions, read_twice, many_answers, site_limits, addresses, log_lines,
+         log_under_load, log_unwritten]
 
 
 def run(only="", is_quick=False):

@@ -2,8 +2,7 @@
 """Where a run of the gate spends its processor time, by crate and by kind of work.
 
     gate.py [NAME..] [--anew]     runs `rt ci` with these words at the top of this checkout, and notes what its processes cost
-    gate.py --table [SINCE]       prints the table of docs/WORKING.md from what was noted (SINCE: seconds since 1970; default: all)
-    gate.py --write [SINCE]       puts that table into docs/WORKING.md, between its two marks
+    gate.py --table [SINCE]       prints a table of what was noted (SINCE: seconds since 1970; default: all)
     gate.py --line [PROGRAM..]    prints the longest line of crates below these programs (default: sws_main and swsd), each of which waits
                                   for the one before it, by the processor time of their proofs as it was noted
 
@@ -32,7 +31,6 @@ import time
 
 TOP = os.path.dirname(os.path.dirname(os.path.abspath(__file__)))
 KINDS = ("proof", "tests", "seed", "edits", "programs", "runs")
-BEGIN, END = "<!-- gate.py: from here -->", "<!-- gate.py: to here -->"
 TICK = os.sysconf("SC_CLK_TCK")
 
 
@@ -187,23 +185,10 @@ def lines(programs):
         print()
 
 
-def write(since):
-    path = f"{TOP}/docs/WORKING.md"
-    with open(path, encoding="utf-8") as it:
-        text = it.read()
-    head, _, rest = text.partition(BEGIN)
-    _, _, tail = rest.partition(END)
-    if not rest or END not in rest:
-        sys.exit(f"docs/WORKING.md lacks the lines {BEGIN} and {END}")
-    with open(path, "w", encoding="utf-8") as it:
-        it.write(f"{head}{BEGIN}\n{table(since)}\n{END}{tail}")
-
-
 def main():
     words = sys.argv[1:]
-    if words[:1] in (["--table"], ["--write"]):
-        since = float(words[1]) if words[1:] else 0
-        print(table(since)) if words[0] == "--table" else write(since)
+    if words[:1] == ["--table"]:
+        print(table(float(words[1]) if words[1:] else 0))
         return 0
     if words[:1] == ["--line"]:
         lines(words[1:] or ["sws_main", "swsd"])

@@ -195,7 +195,7 @@ def unread_outputs(_):
                     os.close(end)
             output.seek(0)
             messages.seek(0)
-            logged, said = output.read().count(b"log "), messages.read()
+            logged, said = output.read().count(b'" 200 10 "-" "-"\n'), messages.read()
         # the two lines of the totals are dropped too
         dropped = sum(int(count) for count in re.findall(rb"\] (\d+) lines of the log were dropped", said))
         is_told = is_messages_full or dropped == (62 if is_output_full else 0)

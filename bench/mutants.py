@@ -5,7 +5,7 @@
     bench/mutants.py --apply [CRATE..]
     bench/mutants.py --list [CRATE..]
     bench/mutants.py --since COMMIT [CRATE..]
-    bench/mutants.py --docs | --mark
+    bench/mutants.py --docs
 
 A crate's edits stand in two folders and have one form. `must-fail/` has those that tell most of its contracts, and the gate tries
 them; `mutants/` has the others, of which rt knows nothing. With no option this tries the edits of `mutants/` of these crates, or of all:
@@ -22,9 +22,9 @@ where it is else not known of one.
 
 --apply only looks whether each edit of both folders applies: whether each text after `old:` stands exactly once in its file. --list prints
 each edit with its folder. --since says which of the edits that there were at a commit are in neither folder of their crate any
-more, or have another text now. --docs looks whether docs/PROMISES.md names each edit, and each time with the mark of its folder: in bold
-where it stands in `must-fail/`, plain where in `mutants/`; --mark sets these marks. Of a name that several crates have, that one is meant which
-the section's heading names, or else the one that was named last. These want neither rt nor time.
+more, or have another text now. --docs looks whether docs/PROMISES.md, which bench/pages.py makes, names each edit, and each time with the
+mark of its folder: in bold where it stands in `must-fail/`, plain where in `mutants/`. Of a name that several crates have, that one is meant
+which the section's heading names, or else the one that was named last. These want neither rt nor time.
 """
 import argparse
 import os
@@ -188,7 +188,7 @@ def try_edits(edits, by_checks, jobs):
     said = {}
     if good:
         if not shutil.which("rt"):
-            raise SystemExit("mutants: there is no rt on the path; --apply, --list, --since, --docs and --mark want none")
+            raise SystemExit("mutants: there is no rt on the path; --apply, --list, --since and --docs want none")
         words = ["rt", "must-fail" if by_checks else "ci", *sorted({edit.crate for edit in good})]
         with tempfile.TemporaryDirectory(prefix="mutants-") as room:
             copy_to(room, good)
@@ -255,44 +255,23 @@ class Reader:
         return [edit for edit in found if edit.crate == last] if last and len(found) > 1 else found
 
 
-def marked(text, edits, crates):
-    """The text of PROMISES with the marks as they must be, the edits that it names, and what is wrong with it."""
-    reader, named, told, lines = Reader(edits, crates), set(), [], []
+def wrong_in(text, edits, crates):
+    """What is wrong with the text of PROMISES: edits without the mark of their folder, and those that it doesn't name."""
+    reader, named, told = Reader(edits, crates), set(), []
     for number, line in enumerate(text.split("\n"), 1):
         reader.begin(line)
-
-        def mark(found):
-            meant = reader.meant(found[2])
-            is_bold = bool(found[1] and found[3])
+        for before, name, behind in SPAN.findall(line):
+            meant = reader.meant(name)
+            is_bold = bool(before and behind)
             if len(meant) > 1:
-                told.append(f"docs/PROMISES.md:{number}: {found[2]} is an edit of {' and '.join(edit.crate for edit in meant)}")
-            if len(meant) != 1:
-                if is_bold and not meant:
-                    told.append(f"docs/PROMISES.md:{number}: {found[2]} is in bold, and no edit")
-                return found[0]
-            edit = meant[0]
-            named.add(edit)
-            if bool(found[1]) != bool(found[3]):
-                told.append(f"docs/PROMISES.md:{number}: {found[2]} stands at the edge of words in bold, so it has no mark of its own")
-                return found[0]
-            if is_bold != (edit.folder == GATE):
-                is_now = "in bold" if is_bold else "plain"
-                told.append(f"docs/PROMISES.md:{number}: {found[2]} is {is_now}, and stands in {edit.folder}/ of {edit.crate}")
-            return f"**`{edit.name}`**" if edit.folder == GATE else f"`{edit.name}`"
-
-        lines.append(SPAN.sub(mark, line))
-    told += [f"docs/PROMISES.md: {edit.name} of {edit.crate} is not named" for edit in edits if edit not in named]
-    return "\n".join(lines), told
-
-
-def set_marks(edits, crates):
-    """Sets the marks in PROMISES, and gives what is wrong with it then."""
-    was = read(PROMISES)
-    text, _ = marked(was, edits, crates)
-    if text != was:
-        with open(PROMISES, "w", encoding="utf-8") as file:
-            file.write(text)
-    return marked(text, edits, crates)[1]
+                told.append(f"docs/PROMISES.md:{number}: {name} is an edit of {' and '.join(edit.crate for edit in meant)}")
+            elif not meant and is_bold:
+                told.append(f"docs/PROMISES.md:{number}: {name} is in bold, and no edit")
+            elif meant:
+                named.add(meant[0])
+                if is_bold != (meant[0].folder == GATE) or bool(before) != bool(behind):
+                    told.append(f"docs/PROMISES.md:{number}: {name} hasn't the mark of {meant[0].folder}/ of {meant[0].crate}")
+    return told + [f"docs/PROMISES.md: {edit.name} of {edit.crate} is not named" for edit in edits if edit not in named]
 
 
 def main():
@@ -306,7 +285,6 @@ def main():
     does.add_argument("--list", action="store_true", help="print each edit with its folder")
     does.add_argument("--since", metavar="COMMIT", help="say which edits of a commit are gone or changed")
     does.add_argument("--docs", action="store_true", help="look whether PROMISES names each edit with its mark")
-    does.add_argument("--mark", action="store_true", help="set the marks in PROMISES")
     given = parser.parse_args()
     crates = crates_named(given.crates)
     edits, others = edits_of(crates)
@@ -325,10 +303,10 @@ def main():
         told, is_less = since(given.since, crates, edits)
         print("\n".join(told))
         return 1 if is_less else 0
-    if given.docs or given.mark:
+    if given.docs:
         if given.crates:
-            raise SystemExit("mutants: --docs and --mark are over all crates")
-        told = set_marks(edits, crates) if given.mark else marked(read(PROMISES), edits, crates)[1]
+            raise SystemExit("mutants: --docs is over all crates")
+        told = wrong_in(read(PROMISES), edits, crates)
         print("\n".join([*told, f"{sums}; {len(told)} wrong in docs/PROMISES.md"]))
         return 1 if told else 0
     return try_edits([edit for edit in edits if given.all or edit.folder == REST], given.checks, given.jobs)

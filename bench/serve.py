@@ -4,7 +4,7 @@
     bench/serve.py [--runs N] [--connections N] [--requests N] [--at-once N] [--in-flight N,..] [--sizes BYTES,..] [--workers N,..]
                    [--lone N] [--idle N] [--log] [--server CPUS] [--client CPUS] [--only WORD] [--program FILE] [--daemon FILE] [--calls]
 
-It wants the program (`./sws`, or --program), `swsd` (`./swsd --version`, or --daemon), measure_net (`rt run` in crates/measure_net), and a C compiler for the
+It wants the program (`./sws`, or --program) or `swsd` (`./swsd --version`, or --daemon), measure_net (`rt run` in crates/measure_net), and a C compiler for the
 client; a server that isn't there is left out. Each server serves one folder to bench/load.c, which makes so many connections on this machine's loopback, so many
 of them at once, each with so many requests, one after another and 16 at a time; of a file of 64 KiB or more it makes fewer. `sws` with several workers is run in
 the shape that the documents advise (64 shards, cost 9) and in the default one, `swsd` with so many lanes of one worker that take connections. nginx is run in two
@@ -284,7 +284,7 @@ def servers(folder, site, given, pinned, client, workers):
     named = {}
     if os.access(NET, os.X_OK):
         named["the same sockets without the runtime"] = [net]
-    for shape in shapes(workers):
+    for shape in shapes(workers) if os.access(given.program, os.X_OK) else []:
         words = sws(given.program, pinned, site, shape)
         named[shape.name] = [lambda path, order, words=words: own(words, client, path, order)]
     for count in workers:
@@ -358,8 +358,8 @@ def main():
     words.add_argument("--calls", action="store_true")
     given = words.parse_args()
     os.environ["PATH"] += ":/usr/sbin"
-    if not os.access(given.program, os.X_OK):
-        sys.exit("serve: the program isn't built")
+    if not any(os.access(program, os.X_OK) for program in (given.program, given.daemon)):
+        sys.exit("serve: neither program is built")
     folder = tempfile.mkdtemp(prefix="sws-serve-")
     os.chmod(folder, 0o755)
     try:

@@ -25,15 +25,19 @@ LARGE = 32 << 20
 
 
 class Server:
-    """A server of the folder at a port of the machine's choice; used as a context, it is stopped behind it."""
+    """A server of the folder, at a port of the machine's choice where none is given; used as a context, it is stopped behind it."""
 
-    def __init__(self, folder, *words, address="127.0.0.1", preexec=None, program=None):
+    def __init__(self, folder, *words, address="127.0.0.1", port=0, preexec=None, program=None, output=None):
         self.room = tempfile.mkdtemp(prefix="swsd-")
         os.chmod(self.room, 0o755)  # a server that runs as somebody else looks for the stop file there too
         self.stop_file = os.path.join(self.room, "stop")
-        words = [program or SWSD, folder, "--listen", f"{address}:0", "--stop-file", self.stop_file, *words]
+        words = [program or SWSD, folder, "--listen", f"{address}:{port}", "--stop-file", self.stop_file, *words]
         self.said = open(os.path.join(self.room, "said"), "w+")
-        self.child = subprocess.Popen(words, stdin=subprocess.DEVNULL, stdout=subprocess.PIPE, stderr=self.said, text=True, preexec_fn=preexec)
+        self.output = output
+        out = open(output, "wb") if output else subprocess.PIPE
+        self.child = subprocess.Popen(words, stdin=subprocess.DEVNULL, stdout=out, stderr=self.said, text=True, preexec_fn=preexec)
+        if output:
+            out.close()
         self.port = None
         until = time.monotonic() + 30
         while self.port is None and self.child.poll() is None and time.monotonic() < until:
@@ -75,6 +79,13 @@ class Server:
     def generations(self):
         return self.lines().count("] generation ")
 
+    def log(self):
+        """The lines of an output that is a file."""
+        if not os.path.isfile(self.output):
+            return []
+        with open(self.output, encoding="latin-1", newline="\n") as output:
+            return output.read().split("\n")[:-1]
+
     def stop(self):
         open(self.stop_file, "w").close()
 
@@ -82,6 +93,8 @@ class Server:
         """Stops it: the status, and the totals by name."""
         self.stop()
         out, _ = self.child.communicate(timeout=seconds)
+        if self.output:
+            out = "\n".join(self.log()[-2:])
         words = out.split()
         return self.child.returncode, {name: int(number) for name, number in zip(words[::2], words[1::2])}
 

@@ -28,7 +28,7 @@ use Rattle.example_chat_room.specs.Messages.{IsSigned, MayGet, asks_world, clien
 use Rattle.example_chat_room.specs.Parts.{IsClient, IsDesk, IsPart, IsRoom, IsSeat, KeepsPart, one_if}
 use Rattle.example_chat_room.specs.Shown.{FitsLine, said_by}
 use Rattle.example_chat_room.specs.Talked.{IsChat}
-use Rattle.example_chat_room.proofs.PickLemmas.{picked_from, picked_same, picked_twice}
+use Rattle.mely_actor.proofs.PickLemmas.{picked_from, picked_same, picked_twice}
 
 get_there : {X : Type 0} (xs : List X) (n : ℕ) → n < length xs → (x : X) × (slice_get xs n ≡ Some x)
 get_there [] n low = absurd (omega (arith, low))

@@ -1,4 +1,3 @@
 pub mod TalkLemmas
 pub mod SeatLemmas
-mod PickLemmas
 pub mod ChatLemmas

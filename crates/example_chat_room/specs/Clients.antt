@@ -7,6 +7,7 @@ use Rattle.example_chat_room.specs.declared.client.Turn.TheVariants as turn
 use Rattle.example_chat_room.specs.Shown.{FitsLine}
 use Rattle.example_chat_room.specs.Talks.{ClientView, Keeps, Says, told_by}
 
+-- a client, as contracts see it
 abbrev pub shown_client : {L : Type 0} {l : LinkWords L} → Client L l → ClientView
 shown_client {l = l} client = record {
   has_come = is_some client.link;

@@ -70,12 +70,12 @@ pub fn serve<R: Threads + Wait + Sync>(
     requires some { 1 ≤ words.now.workers }
     requires workers { words.now.workers ≤ 64 }
 {
-    let listener = listen(rt, words.port).map_err(listen_fault)?;
+    let listeners = [listen(rt, words.port).map_err(listen_fault)?];
     let door = Door::new(rt.alloc(), 1, 1)?;
     door.try_enter(0);
     let entrance = Entrance {
         door: &door,
-        listener: &listener,
+        listeners: &listeners,
         stop: None,
         age: u64::MAX,
         grace: u64::MAX,

@@ -6,7 +6,7 @@ use Rattle.std.specs.Map.{lookup}
 use Rattle.std.specs.Ordering.{nat_cmp}
 use Rattle.std.proofs.Common.{ap}
 use Rattle.mely_net.specs.declared.asked.Asked.{Asked}
-use Rattle.mely_net.specs.declared.asked.Asked.TheVariants.{At, Here, Last}
+use Rattle.mely_net.specs.declared.asked.Asked.TheVariants.{At, Each, Here, Last}
 use Rattle.mely_net.specs.declared.cut.Cut.{Cut}
 use Rattle.mely_net.specs.declared.cut.Cut.TheVariants.{More, Frame, Fault}
 use Rattle.mely_net.specs.Cutting.{IsSteady, Stands}
@@ -47,9 +47,11 @@ abbrev pub key_of : Request → ℕ
 key_of (Add key number) = key
 key_of (Get key) = key
 
--- a counter is in the cell of its remainder; what a line says is not part of this, and tested
+-- a counter is in the cell of its remainder, and a line asks one cell at most; what a line says is
+-- not part of this, and tested
 abbrev pub IsPlaced : Asked Request Reply → Type 0
 IsPlaced (At cell request) = cell ≡ key_of request % CELLS
+IsPlaced (Each asks reply) = ⊥
 IsPlaced (Here reply) = ⊤
 IsPlaced (Last reply) = ⊤
 

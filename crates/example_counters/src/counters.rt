@@ -94,7 +94,7 @@ impl Service for Counters {
       Begins = λ cell counters. counters.entries ≡ [];
       Serves = λ cell before request after reply. IsCounted before.entries request after.entries
           reply;
-      shown = shown_reply;
+      shown = λ reply parts. shown_reply reply;
     } };
 
     fn cells(&self) -> u16 {
@@ -146,7 +146,7 @@ impl Service for Counters {
         }
     }
 
-    fn write(&self, reply: &Reply, out: &mut Vec<u8>) -> Result<(), Memory> {
+    fn write(&self, reply: &Reply, _parts: &[Reply], out: &mut Vec<u8>) -> Result<(), Memory> {
         match reply {
             Reply::Number(number) => {
                 let mut digits = Buffer::new();

@@ -5,7 +5,7 @@ ghost use Rattle.sws_link.specs.MemLinks.{mem_link_tells};
 ghost use Rattle.sws_link.specs.MemWorlds.{IsInitialMemLink};
 ghost use Rattle.mely_net.specs.Served.{HasServed};
 
-use crate::counters::Counters;
+use crate::counters::{Counters, Reply, Request};
 use mely_actor::Ended;
 use mely_event::Memory;
 use mely_net::{Part, Service, serve};
@@ -24,7 +24,7 @@ pub fn run<R: Threads + Wait + Sync>(
     rt: &R,
     alloc: Global,
     links: Vec<MemLink>,
-) -> Result<Ended<Part<BTreeMap<u64, u64>, MemWorld, MemLink>>, Memory>
+) -> Result<Ended<Part<BTreeMap<u64, u64>, MemWorld, MemLink, Request, Reply>>, Memory>
     requires few { length links.items ≤ 8 }
     requires initial { AllByRecursion IsInitialMemLink links.items }
     ensures { IfOk result (λ ended. HasServed (⟦<Counters as Service>⟧.rules_of

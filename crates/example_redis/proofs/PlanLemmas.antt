@@ -3,7 +3,7 @@ use Rattle.std.proofs.Common.{◌≡◌, ◌<◌, ◌%◌, ◌^◌, ℕ, ℤ, Li
 use Rattle.std.specs.Prelude.{⊤, codes}
 use lib.Signed.{mag}
 use Rattle.mely_net.specs.declared.asked.Asked.{Asked}
-use Rattle.mely_net.specs.declared.asked.Asked.TheVariants.{At, Here, Last}
+use Rattle.mely_net.specs.declared.asked.Asked.TheVariants.{At, Each, Here, Last}
 use Rattle.mely_net.specs.Lines.{IsWhose}
 use Rattle.example_redis.specs.declared.asking.Options.{Options}
 use Rattle.example_redis.specs.declared.limits.TheConstants.{CELLS, MOST_KEY}
@@ -11,7 +11,7 @@ use Rattle.example_redis.specs.declared.reply.Reply.{Reply}
 use Rattle.example_redis.specs.declared.request.Request.{Request}
 use Rattle.example_redis.specs.declared.verb.Verb.{Verb}
 use Rattle.example_redis.specs.declared.verb.Verb.TheVariants as verb
-use Rattle.example_redis.specs.Asking.{Plan, Cell, Answer, Ends, bare, cell_of, hash_of, options_from, no_options, plan_at, plan_in, plan_of_name, plan_of_verb, plan_of_words, plan_to_add, plan_to_set, plan_to_subtract, with_key, with_more, with_value}
+use Rattle.example_redis.specs.Asking.{Plan, Cell, Several, Answer, Ends, bare, cell_of, hash_of, options_from, no_options, plan_at, plan_in, plan_of_name, plan_of_verb, plan_of_words, plan_to_add, plan_to_set, plan_to_subtract, with_key, with_more, with_value}
 use Rattle.example_redis.specs.Numbers.{number_of}
 use Rattle.example_redis.specs.Replies.{error}
 use Rattle.example_redis.specs.Values.{Deed, Adds}
@@ -19,6 +19,7 @@ use Rattle.example_redis.specs.Verbs.{verb_of}
 
 abbrev Reaches : Plan → Type 0
 Reaches (Cell cell key deed) = cell < CELLS
+Reaches Several = ⊥
 Reaches (Answer reply) = ⊤
 Reaches (Ends reply) = ⊤
 
@@ -85,6 +86,7 @@ words_there (name ∷ words) = name_there name (verb_of name) words
 
 whose : (asked : Asked Request Reply) → Reaches (plan_in asked) → IsWhose CELLS asked
 whose (At cell request) there = there
+whose (Each asks reply) there = absurd there
 whose (Here reply) there = tt
 whose (Last reply) there = tt
 

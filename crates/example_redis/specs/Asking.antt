@@ -5,7 +5,7 @@ use Rattle.std.specs.List.{fold}
 use lib.Signed.{mag}
 use Rattle.std.specs.Str.{str_eq_ignore_ascii_case}
 use Rattle.mely_net.specs.declared.asked.Asked.{Asked}
-use Rattle.mely_net.specs.declared.asked.Asked.TheVariants.{At, Here, Last}
+use Rattle.mely_net.specs.declared.asked.Asked.TheVariants.{At, Each, Here, Last}
 use Rattle.example_redis.specs.declared.asking.Options.{Options}
 use Rattle.example_redis.specs.declared.limits.TheConstants.{CELLS, MOST_KEY, MOST_SHOWN}
 use Rattle.example_redis.specs.declared.reply.Reply.{Reply}
@@ -22,9 +22,11 @@ use Rattle.example_redis.specs.Replies.{bulk, error, shown_byte, shown_reply, te
 use Rattle.example_redis.specs.Values.{Deed, Looks, Sets, Deletes, Adds, Appends, deed_of, okay}
 use Rattle.example_redis.specs.Verbs.{name_of, verb_of}
 
--- a cell does this with the value of a key; or this is replied; or it is, and the connection ends
+-- a cell does this with the value of a key; or several cells are asked, which no request wants; or
+-- this is replied; or it is, and the connection ends
 pub data Plan : Type 0 where
   Cell : ℕ → List ℕ → Deed → Plan
+  Several : Plan
   Answer : List ℕ → Plan
   Ends : List ℕ → Plan
 
@@ -171,5 +173,6 @@ plan_of frame = plan_of_saying (heard_of frame)
 
 abbrev pub plan_in : Asked Request Reply → Plan
 plan_in (At cell request) = Cell cell request.key.items (deed_of request.action)
+plan_in (Each asks reply) = Several
 plan_in (Here reply) = Answer (shown_reply reply)
 plan_in (Last reply) = Ends (shown_reply reply)

@@ -19,6 +19,7 @@ use Rattle.example_redis.specs.declared.limits.TheConstants.{MOST_LINE, MOST_VAL
 
 -- ---- a number, digit by digit
 
+-- the number with one more digit, if it has no zero in front and is within the bound
 abbrev pub grown : Option ℕ → ℕ → ℕ → Option ℕ
 grown None digit most = Some digit
 grown (Some before) digit most = if before == 0 then None

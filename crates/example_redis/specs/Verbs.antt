@@ -4,6 +4,7 @@ use Rattle.std.specs.Str.{str_eq_ignore_ascii_case}
 use Rattle.example_redis.specs.declared.verb.Verb.{Verb}
 use Rattle.example_redis.specs.declared.verb.Verb.TheVariants as verb
 
+-- the name of a command, in small letters
 abbrev pub name_of : Verb → List ℕ
 name_of verb.Ping = codes "ping"
 name_of verb.Echo = codes "echo"

@@ -58,10 +58,10 @@ fn replace(rt: &HostRuntime, path: &str, bytes: &[u8]) -> io::Result<()> {
 /// # Errors
 ///
 /// There was no memory, or the file can't be written: the file is as it was.
-pub fn keep<W: Drop, L: Link + Drop>(
+pub fn keep<W: Drop, L: Link + Drop, Q: Drop, P: Drop>(
     rt: &HostRuntime,
     file: &Option<String>,
-    parts: Vec<Part<Values, W, L>>,
+    parts: Vec<Part<Values, W, L, Q, P>>,
 ) -> Result<(), Fault> {
     let Some(path) = file else {
         return Ok(());
@@ -79,10 +79,10 @@ pub fn keep<W: Drop, L: Link + Drop>(
 /// # Errors
 ///
 /// As of [`keep`].
-pub fn keep_rest<W: Drop, L: Link + Drop>(
+pub fn keep_rest<W: Drop, L: Link + Drop, Q: Drop, P: Drop>(
     rt: &HostRuntime,
     file: &Option<String>,
-    parts: Vec<Option<Part<Values, W, L>>>,
+    parts: Vec<Option<Part<Values, W, L, Q, P>>>,
 ) -> Result<(), Fault> {
     let Some(path) = file else {
         return Ok(());

@@ -3,6 +3,8 @@ ghost use Rattle.std.specs.Prelude.{IfOk};
 ghost use Rattle.sws_link.specs.MemWorlds.{IsInitialMemLink};
 ghost use Rattle.mely_net.specs.Served.{HasServed};
 
+use crate::reply::Reply;
+use crate::request::Request;
 use crate::store::{Store, Values};
 use mely_actor::Ended;
 use mely_event::Memory;
@@ -13,7 +15,7 @@ use std::thread::Threads;
 use sws_link::{Link, LinkItem, MemLink, MemWorld};
 
 /// What a run over links in memory leaves.
-type Left = Ended<Part<Values, MemWorld, MemLink>>;
+type Left = Ended<Part<Values, MemWorld, MemLink, Request, Reply>>;
 
 /// The link of a client that sends this at once, and takes 7 bytes at a time.
 ///

@@ -2,6 +2,8 @@
 ghost use Rattle.example_redis.specs.Words.{IsInRange};
 
 use crate::keeping::{begin_store, keep, keep_rest};
+use crate::reply::Reply;
+use crate::request::Request;
 use crate::saved::Unsaved;
 use crate::store::{Store, Values};
 use crate::words::Listening;
@@ -80,12 +82,12 @@ pub fn serve_tcp<R: Threads + Wait + Sync>(
     requires { IsInRange words.now }
 {
     let cells = begin_store(rt, &words.file)?;
-    let listener = listen(rt, words.port).map_err(listen_fault)?;
+    let listeners = [listen(rt, words.port).map_err(listen_fault)?];
     let door = Door::new(rt.alloc(), 1, 1)?;
     door.try_enter(0);
     let entrance = Entrance {
         door: &door,
-        listener: &listener,
+        listeners: &listeners,
         stop: None,
         age: u64::MAX,
         grace: u64::MAX,
@@ -110,7 +112,7 @@ pub fn serve_tcp<R: Threads + Wait + Sync>(
 }
 
 /// What a run over sockets leaves.
-type Left<'d> = Ended<Part<Values, LaneWorld<'d>, TcpLink>>;
+type Left<'d> = Ended<Part<Values, LaneWorld<'d>, TcpLink, Request, Reply>>;
 
 /// Says how many connections there were, and how many of them failed. Answers whether neither the
 /// network failed nor standard output.

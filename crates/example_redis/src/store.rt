@@ -72,7 +72,7 @@ impl Service for Store {
       Begins = λ cell values. values.entries ≡ [];
       Serves = λ cell before request after reply.
           IsServed request.key.items (deed_of request.action) before after reply;
-      shown = shown_reply;
+      shown = λ reply parts. shown_reply reply;
     } };
 
     fn cells(&self) -> u16 {
@@ -117,7 +117,7 @@ impl Service for Store {
         }
     }
 
-    fn write(&self, reply: &Reply, out: &mut Vec<u8>) -> Result<(), Memory> {
+    fn write(&self, reply: &Reply, _parts: &[Reply], out: &mut Vec<u8>) -> Result<(), Memory> {
         write(reply, out)
     }
 

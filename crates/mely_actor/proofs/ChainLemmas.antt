@@ -185,7 +185,7 @@ module _ {A V M : Type 0} (a : ActorWords A V M) (plan : Plan A M) (c : Colour) 
   placed : (before after : KeptState A M V) (load : Option (Load M)) (puts : List (Colour × Event × Option (Load M))) → before.log.colour ≡ c → (step : Steps a before load after puts) → IsPut a.event_of c (turning (is_turn load) before.waiting) (turn_is_put (is_turn load) before.waiting (before.waiting ++ step.sends)) (before.waiting ++ step.sends) after.waiting puts
   placed before after load puts of_colour step = subst (λ d. IsPut a.event_of d (turning (is_turn load) before.waiting) (turn_is_put (is_turn load) before.waiting (before.waiting ++ step.sends)) (before.waiting ++ step.sends) after.waiting puts) of_colour step.put
 
-  one_of : (before after : KeptState A M V) (event : Event) (load : Option (Load M)) (puts : List (Colour × Event × Option (Load M))) → before.plan ≡ plan → before.log.colour ≡ c → Steps a before load after puts → One before after event load puts
+  pub one_of : (before after : KeptState A M V) (event : Event) (load : Option (Load M)) (puts : List (Colour × Event × Option (Load M))) → before.plan ≡ plan → before.log.colour ≡ c → Steps a before load after puts → One before after event load puts
   one_of before after event (Some (Posts all)) puts of_plan of_colour step =
       let put = placed before after (Some (Posts all)) puts of_colour step in
       record {

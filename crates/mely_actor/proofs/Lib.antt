@@ -9,7 +9,9 @@ mod SenderLemmas
 mod ChainLemmas
 mod SerialLemmas
 mod StatesLemmas
+mod ReachedLemmas
 mod KeptLemmas
 pub mod SilentLemmas
+pub mod PickLemmas
 pub mod ListLemmas
 pub mod MomentLemmas

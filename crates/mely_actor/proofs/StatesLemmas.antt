@@ -1,5 +1,5 @@
 -- States that are made one after another, and the values that are taken from them.
-use Rattle.std.proofs.Common.{◌≡◌, ◌+◌, ℕ, List, [], ◌∷◌, ◌++◌, Option, Some, false, inl, inr, length, refl, ap, sym, ◌∙◌, arith, subst}
+use Rattle.std.proofs.Common.{◌≡◌, ◌+◌, ℕ, List, [], ◌∷◌, ◌++◌, Option, None, Some, false, inl, inr, length, refl, ap, sym, ◌∙◌, arith, subst}
 use Rattle.std.proofs.lemmas.List.{append-nil, length-append}
 use Rattle.std.proofs.lemmas.Option.{slice_get_within}
 use Rattle.std.specs.Prelude.{IfSome, slice_get}
@@ -8,7 +8,7 @@ use Rattle.mely_weave.proofs.Wholes.GatherLemmas.{get_there}
 use Rattle.mely_actor.specs.declared.actor.Actor.{Ghosts as ActorWords}
 use Rattle.mely_actor.specs.declared.load.Plan.{Plan}
 use Rattle.mely_actor.specs.KeptState.{KeptState}
-use Rattle.mely_actor.specs.Received.{AreBegun, AreLeft, AreMade, AreTaken, AreValues, IsFresh}
+use Rattle.mely_actor.specs.Received.{AreBegun, AreLeft, AreMade, AreTaken, AreValues, IsFresh, IsTaken}
 use Rattle.mely_actor.specs.Running.{Keeps}
 
 one_more : {A : Type 0} (xs : List A) (x : A) (n : ℕ) → length xs ≡ n → length (xs ++ x ∷ []) ≡ n + 1
@@ -39,11 +39,16 @@ module _ {A M V : Type 0} (a : ActorWords A V M) where
   pub none_left : AreTaken a (let none : List (KeptState A M V) = [] in none) (let nothing : List (Option V) = [] in nothing)
   none_left = record { many = refl; each = λ i state value at there. cc }
 
-  pub more_left : (states : List (KeptState A M V)) (values : List (Option V)) (state : KeptState A M V) (value : Option V) → AreTaken a states values → IfSome value (Keeps a state.plan.actor state.log.colour) → AreTaken a (states ++ state ∷ []) (values ++ value ∷ [])
-  more_left states values state value taken keeps = record {
+  -- what a state hands out, where it hands out anything
+  pub handed_out : (state : KeptState A M V) (value : Option V) → IfSome value (λ v. v ≡ state.value) → IfSome value (λ v. state.failed ≡ false) → IfSome value (Keeps a state.plan.actor state.log.colour) → IfSome value (IsTaken a state)
+  handed_out state None is well keeps = tt
+  handed_out state (Some value) is well keeps = record { is = is; well = well; keeps = keeps }
+
+  pub more_left : (states : List (KeptState A M V)) (values : List (Option V)) (state : KeptState A M V) (value : Option V) → AreTaken a states values → IfSome value (IsTaken a state) → AreTaken a (states ++ state ∷ []) (values ++ value ∷ [])
+  more_left states values state value taken is = record {
     many = one_more values value (length states) taken.many ∙ sym (one_more states state (length states) refl);
-    each = λ i one some at there. both_push (λ i (s : KeptState A M V) v. (w : V) → v ≡ Some w → Keeps a s.plan.actor s.log.colour w) states values state value (length states) refl taken.many
-        (λ k s v here is w same. taken.each k s w here (is ∙ ap Some same)) (λ w same. subst (λ o. IfSome o (Keeps a state.plan.actor state.log.colour)) same keeps) i one (Some some) at there some refl;
+    each = λ i one some at there. both_push (λ i (s : KeptState A M V) v. (w : V) → v ≡ Some w → IsTaken a s w) states values state value (length states) refl taken.many
+        (λ k s v here is w same. taken.each k s w here (is ∙ ap Some same)) (λ w same. subst (λ o. IfSome o (IsTaken a state)) same is) i one (Some some) at there some refl;
   }
 
   -- nothing is handed back
@@ -59,7 +64,7 @@ module _ {A M V : Type 0} (a : ActorWords A V M) where
         let same = taken.many in
         let state = get_there states i (omega (arith, within, same)) in
         let is = are i state.0 state.1 in
-        subst (λ (p : Plan A M). Keeps a p.actor (record { 0 = i }) value) is.0 (subst (λ c. Keeps a state.0.plan.actor c value) is.1 (taken.each i state.0 value state.1 at));
+        subst (λ (p : Plan A M). Keeps a p.actor (record { 0 = i }) value) is.0 (subst (λ c. Keeps a state.0.plan.actor c value) is.1 (taken.each i state.0 value state.1 at).keeps);
   }
 
 module _ {A V M : Type 0} (a : ActorWords A V M) (actor : A) where

@@ -1,5 +1,5 @@
 -- What a run of actors leaves.
-use Rattle.std.specs.Prelude.{◌≡◌, ◌<◌, ◌+◌, ◌⊎◌, ℕ, List, [], Option, Some, false, length, map, slice_get, sum_by}
+use Rattle.std.specs.Prelude.{◌≡◌, ◌<◌, ◌+◌, ◌++◌, ◌∷◌, ◌⊎◌, ℕ, List, [], Option, Some, false, length, map, slice_get, sum_by}
 use Rattle.std.specs.List.{AllByRecursion}
 use Rattle.mely_event.specs.declared.colour.Colour.{Colour}
 use Rattle.mely_history.specs.History.{registered_of}
@@ -14,7 +14,7 @@ use Rattle.mely_actor.specs.declared.load.Plan.{Plan}
 use Rattle.mely_actor.specs.KeptState.{KeptState}
 use Rattle.mely_actor.specs.Running.{Keeps}
 use Rattle.mely_actor.specs.Sending.{IsThere, count_to, is_sent_by, messages_in, none_sent, sends_to, sent_by}
-use Rattle.mely_actor.specs.Serial.{ReceivedAsByOne}
+use Rattle.mely_actor.specs.Serial.{Receipt, ReceivedAsByOne}
 
 module _ {A V M : Type 0} (a : ActorWords A V M) where
   -- the state of a colour that has received nothing
@@ -44,6 +44,35 @@ module _ {A V M : Type 0} (a : ActorWords A V M) where
     pub many : (values ≡ []) ⊎ (length values ≡ count)
     pub each : (i : ℕ) (value : V) → slice_get values i ≡ Some (Some value)
         → Keeps a actor (record { 0 = i }) value
+
+  -- a receipt on a colour that has received and sent these before and has this value: what it
+  -- leaves keeps the author's fact over these, the message, and what is sent meanwhile
+  pub record IsNext (actor : A) (colour : Colour) (received : List M) (sent : List (Colour × M))
+      (value : V) (receipt : Receipt M V) : Type 0 where
+    pub here : receipt.colour ≡ colour
+    pub before : receipt.value ≡ value
+    pub keeps : a.kept actor colour (received ++ receipt.message ∷ []) (sent ++ receipt.sends)
+        receipt.becomes
+
+  -- one after another these receipts lead from the one value to the other, on a colour that has
+  -- received and sent these before
+  abbrev pub Lead : A → Colour → List M → List (Colour × M) → V → List (Receipt M V) → V → Type 0
+  Lead actor colour received sent from [] to = to ≡ from
+  Lead actor colour received sent from (receipt ∷ later) to =
+      IsNext actor colour received sent from receipt
+      × Lead actor colour (received ++ receipt.message ∷ []) (sent ++ receipt.sends)
+      receipt.becomes later to
+
+  -- Receipts of a colour led from the value that it was given to the other one, and the author's
+  -- fact held after each. So where it received nothing it has the value that it was given.
+  abbrev pub IsReached : A → Colour → V → V → Type 0
+  IsReached actor colour given value = (receipts : List (Receipt M V))
+      × Lead actor colour [] [] given receipts value
+
+  -- each value that is left was reached from the one that its colour was given
+  abbrev pub AreReached : A → List V → List (Option V) → Type 0
+  AreReached actor given values = (i : ℕ) (first value : V) → slice_get given i ≡ Some first
+      → slice_get values i ≡ Some (Some value) → IsReached actor (record { 0 = i }) first value
 
   -- There is a value for each colour, and a legal history for each shard, in which nothing runs or
   -- waits. What each colour received is what its history says was registered on it, without the
@@ -91,10 +120,15 @@ pub record AreValues {A M V : Type 0} (states : List (KeptState A M V)) (values 
   pub well : (i : ℕ) (state : KeptState A M V) → slice_get states i ≡ Some state
       → state.failed ≡ false
 
--- each value is that of its state, and there is one unless the state has failed
-pub record AreTaken {A M V : Type 0} (a : ActorWords A V M) (states : List (KeptState A M V))
-    (values : List (Option V)) : Type 0 where
-  pub many : length values ≡ length states
-  pub each : (i : ℕ) (state : KeptState A M V) (value : V) → slice_get states i ≡ Some state
-      → slice_get values i ≡ Some (Some value)
-      → Keeps a state.plan.actor state.log.colour value
+module _ {A M V : Type 0} (a : ActorWords A V M) where
+  -- the value of a state that hasn't failed
+  pub record IsTaken (state : KeptState A M V) (value : V) : Type 0 where
+    pub is : value ≡ state.value
+    pub well : state.failed ≡ false
+    pub keeps : Keeps a state.plan.actor state.log.colour value
+
+  -- each value is that of its state, which hasn't failed
+  pub record AreTaken (states : List (KeptState A M V)) (values : List (Option V)) : Type 0 where
+    pub many : length values ≡ length states
+    pub each : (i : ℕ) (state : KeptState A M V) (value : V) → slice_get states i ≡ Some state
+        → slice_get values i ≡ Some (Some value) → IsTaken state value

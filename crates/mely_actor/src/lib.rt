@@ -25,10 +25,10 @@
 //! which it was posted.
 //!
 //! [`run_values`] takes the values that the colours begin with, as what another run left. Where
-//! memory is wanted it hands back the values that there are ([`Halted`]), each with the author's
-//! fact over some messages that its colour received and sent
-//! ([`AreLeft`](../specs/Received.antt)); those of colours on which it was wanted are lost, and all
-//! are where it was wanted to begin.
+//! memory is wanted it hands back the values that there are ([`Halted`]): receipts led there from
+//! the values that were given, with the author's fact after each, and a colour that received
+//! nothing has the value that it was given ([`AreReached`](../specs/Received.antt)). Those of
+//! colours on which it was wanted are lost, and all are where it was wanted to begin.
 //!
 //! Whatever threads made the run, one thread might have received all its messages, one after
 //! another ([`ReceivedAsByOne`](../specs/Serial.antt), `serial` of `AreKept`). There is one order
@@ -61,5 +61,5 @@ mod sends;
 mod waiting;
 
 pub use actor::{Actor, Begins, Place};
-pub use running::{Ended, Halted, run_actors, run_values};
+pub use running::{Ended, Halted, begin_all, run_actors, run_values};
 pub use sends::Sends;

@@ -3,7 +3,7 @@ ghost use Rattle.std.specs.Prelude.{◌≡◌, ◌<◌, ◌≤◌, [], ℕ, IfEr
 ghost use Rattle.std.specs.List.{AllByRecursion};
 ghost use Rattle.mely_event.specs.HandlerTable.{rows_of};
 ghost use Rattle.mely_history.specs.Setup.{colours_of, handlers_of, is_listed};
-ghost use Rattle.mely_actor.specs.Received.{AreBegun, AreKept, AreLeft, AreMade, AreTaken, AreValues};
+ghost use Rattle.mely_actor.specs.Received.{AreBegun, AreKept, AreLeft, AreMade, AreReached, AreTaken, AreValues};
 ghost use Rattle.mely_actor.specs.Sending.{MaySend};
 
 use crate::acting::Acting;
@@ -37,12 +37,17 @@ pub struct Halted<V> {
     pub values: Vec<Option<V>>,
 }
 
-/// The values of all colours, in ascending order.
+/// The values that the colours of these actors begin with, in ascending order, as [`run_actors`]
+/// makes them.
 ///
 /// # Errors
 ///
 /// There was no memory.
-fn begin_all<A: Begins>(alloc: Global, setup: &Setup, actor: &A) -> Result<Vec<A::Value>, Memory>
+pub fn begin_all<A: Begins>(
+    alloc: Global,
+    setup: &Setup,
+    actor: &A,
+) -> Result<Vec<A::Value>, Memory>
     requires { colours_of setup.now ≡ A.colours_of actor.now }
     ensures { IfOk result (λ values. AreBegun A.Actor actor.now (colours_of setup.now)
         values.items) }
@@ -67,8 +72,10 @@ fn make_states<A: Actor>(
 ) -> Result<Vec<Kept<A>>, Memory>
     requires few { length values.items ≤ 65536 }
     requires begun { AreBegun A.Actor plan.now.actor (length values.items) values.items }
-    ensures { IfOk result (λ states. AreMade A.Actor plan.now (length values.items)
+    ensures made { IfOk result (λ states. AreMade A.Actor plan.now (length values.items)
         states.items) }
+    ensures values { IfOk result (λ states. map (λ state. state.value) states.items
+        ≡ values.items) }
 {
     let mut states = Vec::with_capacity(alloc, values.len())?;
     let mut number: u32 = 0;
@@ -169,8 +176,9 @@ where
 /// # Errors
 ///
 /// There was no memory, to begin, for an event or for a value on the way, or a colour was sent more
-/// messages than can be counted: see [`Halted`], which hands back the values that there are. What
-/// was sent and not received is dropped.
+/// messages than can be counted: see [`Halted`], which hands back the values that there are. Each
+/// is what the messages that its colour received made of the one that was given, and that one
+/// itself where it received none. What was sent and not received is dropped.
 pub fn run_values<R: Threads + Wait + Sync, A: Actor + Drop + Sync>(
     rt: &R,
     alloc: Global,
@@ -193,6 +201,8 @@ where
     ensures listed { IfOk result (λ ended. AllByRecursion (λ history. history.listed
         ≡ is_listed setup.now) ended.histories.items) }
     ensures left { IfErr result (λ halted. AreLeft A.Actor actor (A.colours_of actor)
+        halted.values.items) }
+    ensures reached { IfErr result (λ halted. AreReached A.Actor actor values.items
         halted.values.items) }
 {
     let none = Halted {

@@ -59,7 +59,8 @@ pub record IsRunHeard (setup : Setup) (text : List ℕ) (Heard : Walk → Type 0
   pub run : IsDrainedRun setup histories text
   pub heard : HasHeard Heard histories
 
--- where a text that is told was accepted, its histories were heard
+-- where a text that is told was accepted, it is the journal of a legal and drained run, whose
+-- histories were heard, each whole, and nothing else
 abbrev pub HearsRun : Setup → Option (List ℕ) → (Walk → Type 0) → Result Report CheckFault → Type 0
 HearsRun setup None Heard found = ⊤
 HearsRun setup (Some text) Heard (Ok report) = IsRunHeard setup text Heard

@@ -29,7 +29,8 @@ loses core (Take colour by count) = false
 loses core (Fin colour by count) = false
 loses core (Steal colour from to) = from == core
 
--- what a core ran and stole, by these entries
+-- by these entries, how many events a core finished, how many colours it stole, and how many were
+-- stolen from it
 abbrev pub core_report : ℕ → List Entry → CoreReport
 core_report core entries = record {
   ran = sum_by (finished_by core) entries;

@@ -91,7 +91,9 @@ fn make_crew<S: Fits<P> + Drop, P: Drop>(
     let Some(outside) = passes.pop() else {
         unreachable!()
     };
-    let seats = fleet.seats(alloc, passes)?;
+    let Ok(seats) = fleet.seats(alloc, passes) else {
+        return Err(Memory);
+    };
     let outsiders = Vec::with_capacity(alloc, cores + 1)?;
     let rested = Vec::with_capacity(alloc, cores)?;
     let workers = Vec::with_capacity(alloc, cores)?;
@@ -169,8 +171,8 @@ fn work_all<
             ensures seat { IsSeatOf S.frame_of S.fits_under fleet.entry.now number
                 seat.exit.now.passes seat.exit.now.worker }
             ensures made { HasMade S.Trail S.fits_under
-                (behind S.Trail (G.passes gate.entry.now number) A.App) app.entry.now fleet.entry.now
-                seat.entry.now.passes seat.entry.now.worker
+                (behind S.Trail (G.passes gate.entry.now number) A.App) app.entry.now
+                fleet.entry.now seat.entry.now.passes seat.entry.now.worker
                 seat.exit.now.passes seat.exit.now.worker }
         { work_one(rt, fleet, number, seat, &is_one_back, app, gate) },
     );

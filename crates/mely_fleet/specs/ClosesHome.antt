@@ -29,7 +29,8 @@ pub record MayCloseHome {S P F : Type 0} {f : _} {t : _} {g : _} (frame_of : S �
     (fits : F → Colour → Event → Option P → Type 0)
     (fleet : FleetOf (KeptShardState S P) (Note S P) (ShardFrame S F))
     (room : RoomOf S P (KeptShardState S P) F (Note S P) (ShardFrame S F) f t g)
-    (home : List (SeatOf (KeptShardState S P) (Option (IdleWorkerState P)) (Note S P) (ShardFrame S F) g))
+    (home : List (SeatOf (KeptShardState S P) (Option (IdleWorkerState P)) (Note S P)
+    (ShardFrame S F) g))
     (others : List (PassesOf (KeptShardState S P) (Note S P) (ShardFrame S F) g)) : Type 0 where
   pub of_setup : room.setup ≡ fleet.setup
   pub of_passes : room.passes ≡ fleet.passes
@@ -51,7 +52,8 @@ pub record IsClosedInto {S P F : Type 0} {g : _} (t : TrailWords S F)
   pub setup : weave.setup ≡ fleet.setup
   pub notes : ℕ → List (Note S P)
   pub histories : AtEach (λ k has. IsClosedShard fleet.passes k callers has (notes k)) weave.shards
-  pub givens : AtEach (λ k has. givens has ≡ givens_in (shard_frame t.frame_of) fleet k) weave.shards
+  pub givens : AtEach (λ k has. givens has
+      ≡ givens_in (shard_frame t.frame_of) fleet k) weave.shards
   pub left : AtEach (λ k has. IsLeftByOthers fleet.setup k callers has.history) weave.shards
   pub shards : AtEach (λ k has. MayGatherShard t fleet.setup
       (frame_in (shard_frame t.frame_of) fleet) k has) weave.shards
@@ -63,7 +65,8 @@ pub record IsClosedInto {S P F : Type 0} {g : _} (t : TrailWords S F)
 pub record IsClosedHome {S P F : Type 0} {g : _} (t : TrailWords S F)
     (fits : F → Colour → Event → Option P → Type 0)
     (fleet : FleetOf (KeptShardState S P) (Note S P) (ShardFrame S F))
-    (home : List (SeatOf (KeptShardState S P) (Option (IdleWorkerState P)) (Note S P) (ShardFrame S F) g))
+    (home : List (SeatOf (KeptShardState S P) (Option (IdleWorkerState P)) (Note S P)
+    (ShardFrame S F) g))
     (others : List (PassesOf (KeptShardState S P) (Note S P) (ShardFrame S F) g))
     (weave : WeaveState S P) : Type 0 where
   pub closed : IsClosedInto t fits fleet (others ++ map (λ seat. seat.passes) home) weave

@@ -67,7 +67,8 @@ chain_frame_for setup = record {
   pinned = pinned_of setup;
 }
 
--- the passes are passes of this fleet, and outside
+-- the passes are passes of this fleet, one for each lock, of one number and outside, and what each
+-- lock keeps has the frame of its place
 pub record ArePasses {S P V F : Type 0} {g : _} (kept_frame : V → ShardFrame S F)
     (fleet : FleetOf V (Note S P) (ShardFrame S F))
     (passes : PassesOf V (Note S P) (ShardFrame S F) g) : Type 0 where
@@ -104,8 +105,9 @@ ReachesOn fleet core before after Does =
     (Does (chain_frame_for fleet.setup) before.number)
 
 -- a delivery with these passes
-abbrev pub DeliversOn : {S P V F : Type 0} {g : _} → FleetOf V (Note S P) (ShardFrame S F) → Delivery
-    → PassesOf V (Note S P) (ShardFrame S F) g → PassesOf V (Note S P) (ShardFrame S F) g → Type 0
+abbrev pub DeliversOn : {S P V F : Type 0} {g : _} → FleetOf V (Note S P) (ShardFrame S F)
+    → Delivery → PassesOf V (Note S P) (ShardFrame S F) g
+    → PassesOf V (Note S P) (ShardFrame S F) g → Type 0
 DeliversOn fleet delivery before after =
     DeliversAt (chain_frame_for fleet.setup) before.number delivery (fronts before.chains.items)
     (fronts after.chains.items)

@@ -90,7 +90,8 @@ words t fits = record {
 
 -- more was seen, or as much
 abbrev pub SeesMore : {S P F : Type 0} → Standpoint S P F → Standpoint S P F → Type 0
-SeesMore {S} {P} a b = (k : ℕ) → (more : List (Note S P)) × (front_in b.fronts k ≡ front_in a.fronts k ++ more)
+SeesMore {S} {P} a b = (k : ℕ) → (more : List (Note S P))
+    × (front_in b.fronts k ≡ front_in a.fronts k ++ more)
 
 -- of what was seen of each shard nothing runs and nothing is queued
 abbrev pub SeesAllDrained : {S P F : Type 0} → Standpoint S P F → Type 0
@@ -145,7 +146,8 @@ module _ {R S P F : Type 0} (t : TrailWords S F) (fits : F → Colour → Event 
 
 -- the worker may make a step with these passes
 abbrev pub MayWork : {S P F : Type 0} {g : _} → TrailWords S F
-    → (F → Colour → Event → Option P → Type 0) → FleetOf (KeptShardState S P) (Note S P) (ShardFrame S F)
+    → (F → Colour → Event → Option P → Type 0)
+    → FleetOf (KeptShardState S P) (Note S P) (ShardFrame S F)
     → PassesOf (KeptShardState S P) (Note S P) (ShardFrame S F) g → WorkerState S P → Type 0
 MayWork t fits fleet passes w =
     MayStepAt t fits (words t fits) (standpoint (shard_frame t.frame_of) fleet passes) w

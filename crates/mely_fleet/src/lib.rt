@@ -49,5 +49,5 @@ pub use mely_kept::{KeptShard, ShardFrame};
 pub use mely_kept_chain::{ChainFrame, ChainNote, KeptChain};
 pub use passes::{Passes, PassesOf};
 pub use room::{Room, RoomOf};
-pub use seat::{Seat, SeatOf};
+pub use seat::{Seat, SeatOf, Unclosed, UnclosedOf};
 pub use working::Worked;

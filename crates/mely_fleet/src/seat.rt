@@ -1,5 +1,5 @@
 //! The threads of a fleet's cores.
-ghost use Rattle.std.specs.Prelude.{◌≡◌, ◌≤◌, ◌+◌, ◌++◌, ◌↔◌, [], ℕ, Some, true, IfOk, IfSome, IsSome, length, map, slice_get, vec_len, vec_capacity};
+ghost use Rattle.std.specs.Prelude.{◌≡◌, ◌≤◌, ◌+◌, ◌++◌, ◌↔◌, [], ℕ, Some, true, IfErr, IfOk, IfSome, IsSome, OnOk, length, map, slice_get, vec_len, vec_capacity};
 ghost use Rattle.mely_history.specs.Setup.{shape_of};
 ghost use Rattle.mely_worker.specs.Conditions.{AppServes};
 ghost use Rattle.mely_worker.specs.Gated.{behind};
@@ -13,7 +13,7 @@ ghost use Rattle.mely_fleet.specs.Work.{SeesAllDrained, SeesMore, standpoint};
 
 use crate::fleet::FleetOf;
 use crate::passes::{Passes, PassesOf};
-use crate::room::Room;
+use crate::room::{Room, RoomOf};
 use crate::working::Worked;
 use mely_event::{Fits, Kept, Memory, Trail};
 use mely_kept::KeptShard;
@@ -35,11 +35,15 @@ pub struct SeatOf<V: Kept, W> {
 pub type Seat<S, P> = SeatOf<KeptShard<S, P>, Option<IdleWorker<P>>>;
 
 /// Passes and workers side by side.
+///
+/// # Errors
+///
+/// There was no memory: the passes are handed back.
 fn seat_all<V: Kept + Drop, P: Drop>(
     alloc: Global,
     passes: Vec<PassesOf<V>>,
     rested: Vec<IdleWorker<P>>,
-) -> Result<Vec<SeatOf<V, Option<IdleWorker<P>>>>, Memory>
+) -> Result<Vec<SeatOf<V, Option<IdleWorker<P>>>>, Vec<PassesOf<V>>>
     requires as_many { length rested.items ≡ length passes.items }
     ensures many { IfOk result (λ seats. length seats.items ≡ length passes.items) }
     ensures passes { IfOk result (λ seats. (n : ℕ) (own : _) (seat : _)
@@ -48,8 +52,11 @@ fn seat_all<V: Kept + Drop, P: Drop>(
     ensures workers { IfOk result (λ seats. (n : ℕ) (rest : _) (seat : _)
         → slice_get rested.items n ≡ Some rest
         → slice_get seats.items n ≡ Some seat → seat.worker ≡ Some rest) }
+    ensures back { IfErr result (λ back. back.items ≡ passes.items) }
 {
-    let mut seats = Vec::with_capacity(alloc, passes.len())?;
+    let Ok(mut seats) = Vec::with_capacity(alloc, passes.len()) else {
+        return Err(passes);
+    };
     let mut left = rested;
     left.reverse();
     'passes: for own in passes {
@@ -69,8 +76,12 @@ impl<S: Fits<P> + Drop, P: Drop> FleetOf<KeptShard<S, P>> {
     ///
     /// # Errors
     ///
-    /// There was no memory: the passes are dropped.
-    pub fn seats(&self, alloc: Global, passes: Vec<Passes<S, P>>) -> Result<Vec<Seat<S, P>>, Memory>
+    /// There was no memory: the passes are handed back.
+    pub fn seats(
+        &self,
+        alloc: Global,
+        passes: Vec<Passes<S, P>>,
+    ) -> Result<Vec<Seat<S, P>>, Vec<Passes<S, P>>>
         requires many { length passes.items ≡ (shape_of self.now.setup).cores }
         requires first { AtEach (λ n own.
             AreInitialPasses (shard_frame S.frame_of) self.now n own) passes.items }
@@ -80,8 +91,11 @@ impl<S: Fits<P> + Drop, P: Drop> FleetOf<KeptShard<S, P>> {
             seats.items) }
         ensures fresh { IfOk result (λ seats.
             AtEach (λ n seat. IsFresh seat.passes seat.worker) seats.items) }
+        ensures back { IfErr result (λ back. back.items ≡ passes.items) }
     {
-        let rested = rested_of(alloc, &self.setup)?;
+        let Ok(rested) = rested_of(alloc, &self.setup) else {
+            return Err(passes);
+        };
         let seats = seat_all(alloc, passes, rested)?;
         Ok(seats)
     }
@@ -161,6 +175,41 @@ fn wake_all<S, P: Drop>(rested: Vec<IdleWorker<P>>, workers: Vec<Worker<S, P>>) 
     workers
 }
 
+/// What a fleet is to be closed with. `V` is what the locks of the shards keep.
+#[derive(Drop)]
+pub struct UnclosedOf<S: Fits<P>, P, V: Kept> {
+    pub fleet: FleetOf<V>,
+    pub room: RoomOf<S, P, V>,
+    pub seats: Vec<SeatOf<V, Option<IdleWorker<P>>>>,
+    pub outsiders: Vec<PassesOf<V>>,
+}
+
+/// What [`close_seats`](FleetOf::close_seats) was given, where there was no memory.
+pub type Unclosed<S, P> = UnclosedOf<S, P, KeptShard<S, P>>;
+
+/// Room for so many further callers in a list, and lists with room for so many workers at rest and
+/// awake.
+///
+/// # Errors
+///
+/// There was no memory: the list of callers is as it was.
+fn make_lists<V: Kept, S, P: Drop>(
+    alloc: Global,
+    many: usize,
+    callers: &mut Vec<PassesOf<V>>,
+) -> Result<(Vec<IdleWorker<P>>, Vec<Worker<S, P>>), Memory>
+    ensures callers { callers.new.items ≡ callers.old.items }
+    ensures room { OnOk result (vec_len callers.new + many ≤ vec_capacity callers.new) }
+    ensures rested { IfOk result (λ lists. (lists.0.items ≡ []) × (many ≤ vec_capacity lists.0)) }
+    ensures workers { IfOk result (λ lists. (lists.1.items ≡ [])
+        × (many ≤ vec_capacity lists.1)) }
+{
+    callers.reserve(many)?;
+    let rested = Vec::with_capacity(alloc, many)?;
+    let workers = Vec::with_capacity(alloc, many)?;
+    Ok((rested, workers))
+}
+
 impl<S: Fits<P> + Drop, P: Drop> FleetOf<KeptShard<S, P>> {
     ghost use Rattle.mely_fleet.specs.ClosesHome.{MayCloseHome, IsClosedHome};
 
@@ -195,23 +244,32 @@ impl<S: Fits<P> + Drop, P: Drop> FleetOf<KeptShard<S, P>> {
     ///
     /// # Errors
     ///
-    /// There was no memory for the lists of passes and workers: all is dropped.
+    /// There was no memory for the lists of passes and workers: all that was given is handed back,
+    /// and may be closed later.
     pub fn close_seats(
         self,
         alloc: Global,
         room: Room<S, P>,
         seats: Vec<Seat<S, P>>,
         outsiders: Vec<Passes<S, P>>,
-    ) -> Result<Weave<S, P>, Memory>
+    ) -> Result<Weave<S, P>, Unclosed<S, P>>
         requires home { MayCloseHome S.frame_of S.fits_under self room
             seats.items outsiders.items }
         ensures home { IfOk result (λ weave.
             IsClosedHome S.Trail S.fits_under self seats.items outsiders.items weave) }
+        ensures fleet { IfErr result (λ back. (back.fleet ≡ self) × (back.room ≡ room)) }
+        ensures seats { IfErr result (λ back. back.seats.items ≡ seats.items) }
+        ensures outsiders { IfErr result (λ back. back.outsiders.items ≡ outsiders.items) }
     {
         let mut callers = outsiders;
-        callers.reserve(seats.len())?;
-        let rested = Vec::with_capacity(alloc, seats.len())?;
-        let workers = Vec::with_capacity(alloc, seats.len())?;
-        Ok(self.close_home(room, seats, callers, rested, workers))
+        match make_lists(alloc, seats.len(), &mut callers) {
+            Ok((rested, workers)) => Ok(self.close_home(room, seats, callers, rested, workers)),
+            Err(_) => Err(UnclosedOf {
+                fleet: self,
+                room,
+                seats,
+                outsiders: callers,
+            }),
+        }
     }
 }

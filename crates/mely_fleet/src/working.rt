@@ -59,7 +59,8 @@ impl<S: Fits<P> + Drop, P: Drop> FleetOf<KeptShard<S, P>> {
         requires may { MayWorkOn S.Trail S.fits_under self.now passes.old worker.old }
         requires served { let frame = frame_in (shard_frame S.frame_of) self.now in
             AppServes A.App self.now.setup frame app.now }
-        ensures makes { let app_behind = behind S.Trail (G.passes gate.now passes.old.number) A.App in
+        ensures makes { let passed = G.passes gate.now passes.old.number in
+            let app_behind = behind S.Trail passed A.App in
             MakesOn S.Trail S.fits_under app_behind app.now self.now
             passes.old worker.old passes.new worker.new }
         ensures worked { HasWorked S.Trail S.fits_under self.now

@@ -1,33 +1,39 @@
 -- A connection that waits for nobody cuts a frame, and answers it or asks a cell; or it answers a
 -- fault.
-use Rattle.std.proofs.Common.{◌≡◌, ℕ, Bool, true, false, List, [], ◌∷◌, ◌++◌, Option, None, Some, length, map, refl, sym, ◌∙◌, ap, subst, inl, inr}
+use Rattle.std.proofs.Common.{◌≡◌, ◌<◌, ℕ, Vec, Bool, true, false, List, [], ◌∷◌, ◌++◌, Option, None, Some, length, map, refl, sym, ◌∙◌, ap, subst, inl, inr}
 use Rattle.std.proofs.lemmas.List.{append-nil, append_assoc}
-use Rattle.std.specs.List.{AllByRecursion, cons_option}
+use Rattle.std.specs.List.{AllByRecursion}
 use Rattle.std.specs.Prelude.{IfSome}
 use Rattle.sws_link.specs.Links.{LinkContents}
+use Rattle.std.specs.Global.{Global}
 use Rattle.mely_net.specs.declared.asked.Asked.{Asked}
-use Rattle.mely_net.specs.declared.asked.Asked.TheVariants.{At}
+use Rattle.mely_net.specs.declared.asked.Asked.TheVariants.{Each}
+use Rattle.mely_net.specs.declared.several.Next.{Next}
+use Rattle.mely_net.specs.declared.several.Next.TheVariants.{Asks, Whole}
 use Rattle.mely_net.specs.declared.cut.Cut.TheVariants as cut
 use Rattle.mely_net.specs.declared.end.End.{End}
 use Rattle.mely_net.specs.declared.end.End.TheVariants as ends
-use Rattle.mely_net.specs.Clients.{IsFailure, Says}
+use Rattle.mely_net.specs.Clients.{IsFailure, Says, ended_by}
 use Rattle.mely_net.specs.Cutting.{cut_within}
-use Rattle.mely_net.specs.Lines.{IsAll, IsLast, IsLine, IsReply, Line, exchange_of, exchanges_in, shown_of, shown_to_fault}
+use Rattle.mely_net.specs.Lines.{IsAll, IsLast, IsLine, IsReply, IsWhose, Line, exchanges_by, exchanges_in, exchanges_of, shown_of, shown_to_fault}
+use Rattle.mely_net.specs.Nexts.{IsNext}
 use Rattle.mely_net.specs.Rules.{Rules}
-use Rattle.mely_net.specs.Talks.{ClientView, IsAnswered, IsCarried, IsSpoken, IsTalk, IsTold, Request, frame_of, replies_of, requests_of}
-use Rattle.mely_net.proofs.FrameLemmas.{all_push, frames_of_push, frames_push, has_last_push, last_push, replies_push, requests_push, shown_push}
+use Rattle.mely_net.specs.Several.{SeveralState}
+use Rattle.mely_net.specs.Talks.{ClientView, IsAnswered, IsAsked, IsCarried, IsSpoken, IsTalk, IsTold, Request, frame_of, replies_of, requests_of, several_of}
+use Rattle.mely_net.specs.Turning.{Begins, TurnsTo}
+use Rattle.mely_net.proofs.FrameLemmas.{all_push, exchanges_push, frames_of_push, frames_push, has_last_push, last_push, same_state, shown_push}
 use Rattle.mely_net.proofs.TalkLemmas.{failure_all, none_under_way, not_both}
 
 -- nobody waits where no request is under way
-pub answered_none : (Q : Type 0) (end : Option End) → IsAnswered {Q = Q} end None
-answered_none Q None = tt
-answered_none Q (Some ends.Left) = refl
-answered_none Q (Some ends.Done) = refl
-answered_none Q (Some ends.Fault) = tt
-answered_none Q (Some ends.Memory) = tt
-answered_none Q (Some ends.Astray) = tt
+pub answered_none : (Q P : Type 0) (end : Option End) → IsAnswered {Q = Q} {P = P} end None
+answered_none Q P None = tt
+answered_none Q P (Some ends.Left) = refl
+answered_none Q P (Some ends.Done) = refl
+answered_none Q P (Some ends.Fault) = tt
+answered_none Q P (Some ends.Memory) = tt
+answered_none Q P (Some ends.Astray) = tt
 
-says_not_left : (shown : List ℕ) (before after : ClientView) → Says shown before after → (before.end ≡ Some ends.Left → ⊥) → after.end ≡ Some ends.Left → ⊥
+says_not_left : {Q P : Type 0} (shown : List ℕ) (before after : ClientView Q P) → Says shown before after → (before.end ≡ Some ends.Left → ⊥) → after.end ≡ Some ends.Left → ⊥
 says_not_left shown before after says stays left = elim says.end [
   | inl same ↦ stays (sym same ∙ left)
   | inr fails ↦ subst IsFailure left fails.1
@@ -35,25 +41,28 @@ says_not_left shown before after says stays left = elim says.end [
 
 module _ {Q P C : Type 0} (rules : Rules Q P C) where
   -- a connection that waits for nobody and cuts frames
-  pub record IsIdle (asks : List (ℕ × Q)) (replies : List (ℕ × P)) (client : ClientView) : Type 0 where
+  pub record IsIdle (asks : List (ℕ × Q)) (replies : List (ℕ × P)) (client : ClientView Q P) : Type 0 where
     pub lines : List (Line Q P)
     pub spoken : IsSpoken rules asks replies lines None []
+    pub alone : client.several ≡ None
     pub none_last : AllByRecursion (λ line. IsLast line.asked → ⊥) lines
     pub told : IfSome client.told (IsTold rules (map (λ line. line.frame) lines) client.inbox (shown_of rules lines) client.outbox)
 
-  pub idle_of : (asks : List (ℕ × Q)) (replies : List (ℕ × P)) (client : ClientView) → client.end ≡ None → client.asked ≡ None → client.is_last ≡ false → IsTalk rules asks replies client → IsIdle asks replies client
+  pub idle_of : (asks : List (ℕ × Q)) (replies : List (ℕ × P)) (client : ClientView Q P) → client.end ≡ None → client.asked ≡ None → client.is_last ≡ false → IsTalk rules asks replies client → IsIdle asks replies client
   idle_of asks replies client goes idle not_last talk =
       let none_astray = talk.kept.none_astray goes in
-      let none = none_under_way talk.astray talk.under_way client.asked none_astray talk.kept.known idle in
+      let both = none_under_way talk.astray talk.under_way client.asked client.several none_astray talk.kept.known idle in
+      let none = both.0 in
       let on = talk.kept.goes_on not_last in
       record {
         lines = talk.lines;
         spoken = subst (λ u. IsSpoken rules asks replies talk.lines u []) none (subst (λ a. IsSpoken rules asks replies talk.lines talk.under_way a) none_astray talk.spoken);
+        alone = both.1;
         none_last = on.not_last;
         told = told_of talk.lines talk.under_way talk.refused talk.rest talk.unwritten none on.no_fault (talk.carried.inbox_is goes) (talk.carried.outbox_is goes) talk.carried.told;
       }
     where
-      told_of : (lines : List (Line Q P)) (under_way : Option (Request Q)) (refused : Option P) (rest unwritten : List ℕ) → under_way ≡ None → refused ≡ None → rest ≡ client.inbox → unwritten ≡ client.outbox
+      told_of : (lines : List (Line Q P)) (under_way : Option (Request Q P)) (refused : Option P) (rest unwritten : List ℕ) → under_way ≡ None → refused ≡ None → rest ≡ client.inbox → unwritten ≡ client.outbox
           → IfSome client.told (IsTold rules (map (λ line. line.frame) lines ++ frame_of under_way) rest (shown_of rules lines ++ shown_to_fault rules refused) unwritten)
           → IfSome client.told (IsTold rules (map (λ line. line.frame) lines) client.inbox (shown_of rules lines) client.outbox)
       told_of lines under_way refused rest unwritten none no_fault inbox outbox told =
@@ -79,53 +88,54 @@ module _ {Q P C : Type 0} (rules : Rules Q P C) where
   }
 
   -- it is all, or the connection has failed
-  pub says_all : (shown rest unwritten : List ℕ) (before after : ClientView) → Says shown before after → IsAll rules before.end rest unwritten → IsAll rules after.end rest unwritten
+  pub says_all : (shown rest unwritten : List ℕ) (before after : ClientView Q P) → Says shown before after → IsAll rules before.end rest unwritten → IsAll rules after.end rest unwritten
   says_all shown rest unwritten before after says all = elim says.end [
     | inl same ↦ subst (λ e. IsAll rules e rest unwritten) (sym same) all
     | inr fails ↦ failure_all rules after.end rest unwritten fails.1
   ]
 
   -- a further line is carried
-  pub line_carried : (lines : List (Line Q P)) (line : Line Q P) (rest unwritten : List ℕ) (before after : ClientView) → Says (rules.shown line.reply) before after
+  pub line_carried : (lines : List (Line Q P)) (line : Line Q P) (rest unwritten : List ℕ) (before after : ClientView Q P) → Says (rules.shown line.reply line.parts) before after
       → IfSome before.told (IsTold rules (map (λ one. one.frame) lines ++ line.frame ∷ []) rest (shown_of rules lines) unwritten)
-      → (before.end ≡ None → rest ≡ before.inbox) → (before.end ≡ None → unwritten ≡ before.outbox) → IsAll rules before.end rest (unwritten ++ rules.shown line.reply) → (before.end ≡ Some ends.Left → ⊥)
-      → IsCarried rules (lines ++ line ∷ []) None None rest (unwritten ++ rules.shown line.reply) after
+      → (before.end ≡ None → rest ≡ before.inbox) → (before.end ≡ None → unwritten ≡ before.outbox) → IsAll rules before.end rest (unwritten ++ rules.shown line.reply line.parts) → (before.end ≡ Some ends.Left → ⊥)
+      → IsCarried rules (lines ++ line ∷ []) None None rest (unwritten ++ rules.shown line.reply line.parts) after
   line_carried lines line rest unwritten before after says told inbox outbox all stays =
-      let shown = told_shown before.told _ rest _ unwritten (rules.shown line.reply) told in
+      let shown = told_shown before.told _ rest _ unwritten (rules.shown line.reply line.parts) told in
       let frames_are = sym (append-nil (map (λ (one : Line Q P). one.frame) (lines ++ line ∷ [])) ∙ frames_of_push lines line) in
       let shown_is = sym (append-nil (shown_of rules (lines ++ line ∷ [])) ∙ shown_push lines line rules) in
       record {
-        told = subst (λ t. IfSome t (IsTold rules (map (λ one. one.frame) (lines ++ line ∷ []) ++ []) rest (shown_of rules (lines ++ line ∷ []) ++ []) (unwritten ++ rules.shown line.reply))) (sym says.told)
-            (subst (λ s. IfSome before.told (IsTold rules (map (λ one. one.frame) (lines ++ line ∷ []) ++ []) rest s (unwritten ++ rules.shown line.reply))) shown_is
-            (subst (λ f. IfSome before.told (IsTold rules f rest (shown_of rules lines ++ rules.shown line.reply) (unwritten ++ rules.shown line.reply))) frames_are shown));
+        told = subst (λ t. IfSome t (IsTold rules (map (λ one. one.frame) (lines ++ line ∷ []) ++ []) rest (shown_of rules (lines ++ line ∷ []) ++ []) (unwritten ++ rules.shown line.reply line.parts))) (sym says.told)
+            (subst (λ s. IfSome before.told (IsTold rules (map (λ one. one.frame) (lines ++ line ∷ []) ++ []) rest s (unwritten ++ rules.shown line.reply line.parts))) shown_is
+            (subst (λ f. IfSome before.told (IsTold rules f rest (shown_of rules lines ++ rules.shown line.reply line.parts) (unwritten ++ rules.shown line.reply line.parts))) frames_are shown));
         is_refused = tt;
         inbox_is = λ e. inbox (says.same.goes_on e) ∙ sym says.inbox;
-        outbox_is = λ e. ap (λ l. l ++ rules.shown line.reply) (outbox (says.same.goes_on e)) ∙ sym (says.outbox e);
-        all = says_all (rules.shown line.reply) rest (unwritten ++ rules.shown line.reply) before after says all;
-        nothing_left = λ e. absurd (says_not_left (rules.shown line.reply) before after says stays e);
-        answered = answered_none Q after.end;
+        outbox_is = λ e. ap (λ l. l ++ rules.shown line.reply line.parts) (outbox (says.same.goes_on e)) ∙ sym (says.outbox e);
+        all = says_all (rules.shown line.reply line.parts) rest (unwritten ++ rules.shown line.reply line.parts) before after says all;
+        nothing_left = λ e. absurd (says_not_left (rules.shown line.reply line.parts) before after says stays e);
+        answered = answered_none Q P after.end;
       }
 
-  -- a cell is asked
-  pub asks_cell : (asks : List (ℕ × Q)) (replies : List (ℕ × P)) (client : ClientView) (frame behind : List ℕ) (cell : ℕ) (request : Q) → client.has_come ≡ true → client.end ≡ None → client.is_last ≡ false
-      → client.inbox ≡ frame ++ behind → cut_within rules.cut rules.longest client.inbox ≡ cut.Frame (length frame) → rules.Asks frame (At cell request)
-      → IsIdle asks replies client → IsTalk rules (asks ++ (cell, request) ∷ []) replies (record client { inbox = behind; asked = Some cell })
-  asks_cell asks replies client frame behind cell request come goes not_last parts is asks_it idle = record {
+  -- a cell is asked, the first or the only one
+  pub asks_cell : (asks : List (ℕ × Q)) (replies : List (ℕ × P)) (client : ClientView Q P) (frame behind : List ℕ) (asked : Asked Q P) (cell : ℕ) (request : Q) (left : List (ℕ × Q)) (several : Option (SeveralState Q P)) → client.has_come ≡ true → client.end ≡ None → client.is_last ≡ false
+      → client.inbox ≡ frame ++ behind → cut_within rules.cut rules.longest client.inbox ≡ cut.Frame (length frame)
+      → IsAsked rules (record { frame = frame; asked = asked; done = []; cell = cell; request = request; left = left }) → several ≡ several_of asked (record { frame = frame; asked = asked; done = []; cell = cell; request = request; left = left })
+      → IsIdle asks replies client → IsTalk rules (asks ++ (cell, request) ∷ []) replies (record client { inbox = behind; asked = Some cell; several = several })
+  asks_cell asks replies client frame behind asked cell request left several come goes not_last parts is is_asked known idle = record {
     lines = idle.lines;
-    under_way = Some (record { frame = frame; cell = cell; request = request });
+    under_way = Some (record { frame = frame; asked = asked; done = []; cell = cell; request = request; left = left });
     refused = None;
     astray = [];
     rest = behind;
     unwritten = client.outbox;
     spoken = record {
-      asked = ap (λ l. l ++ (cell, request) ∷ []) (idle.spoken.asked ∙ append-nil (requests_of (exchanges_in idle.lines)));
+      asked = ap (λ l. l ++ (cell, request) ∷ []) (idle.spoken.asked ∙ append-nil (requests_of (exchanges_in idle.lines ++ [])));
       replied = idle.spoken.replied;
       lines_are = idle.spoken.lines_are;
       end_at_last = idle.spoken.end_at_last;
-      is_asked = asks_it;
+      is_asked = is_asked;
     };
     kept = record {
-      known = refl;
+      known = (refl, known);
       none_astray = λ e. refl;
       strays = λ e. absurd (let never : ⊥ = cc (goes, e) in never);
       goes_on = λ e. record { not_last = idle.none_last; no_fault = refl };
@@ -142,33 +152,33 @@ module _ {Q P C : Type 0} (rules : Rules Q P C) where
       outbox_is = λ e. refl;
       all = subst (λ e. IsAll rules e behind client.outbox) (sym goes) tt;
       nothing_left = λ e. absurd (let never : ⊥ = cc (goes, e) in never);
-      answered = subst (λ e. IsAnswered {Q = Q} e (Some (record { frame = frame; cell = cell; request = request }))) (sym goes) tt;
+      answered = subst (λ e. IsAnswered {Q = Q} {P = P} e (Some (record { frame = frame; asked = asked; done = []; cell = cell; request = request; left = left }))) (sym goes) tt;
     };
   }
 
   -- the connection itself answers
-  pub answers_here : (asks : List (ℕ × Q)) (replies : List (ℕ × P)) (client after : ClientView) (frame behind : List ℕ) (asked : Asked Q P) (reply : P) (last : Bool) → client.has_come ≡ true → client.end ≡ None → client.asked ≡ None
-      → client.inbox ≡ frame ++ behind → cut_within rules.cut rules.longest client.inbox ≡ cut.Frame (length frame) → rules.Asks frame asked → IsReply asked reply → exchange_of reply asked ≡ None → (last ≡ false → IsLast asked → ⊥) → (last ≡ true → IsLast asked)
-      → Says (rules.shown reply) (record client { inbox = behind; is_last = last }) after → IsIdle asks replies client → IsTalk rules asks replies after
-  answers_here asks replies client after frame behind asked reply last come goes waits_not parts is asks_it replies_it own not_last is_last says idle =
-      let line : Line Q P = record { frame = frame; asked = asked; reply = reply } in
-      let none : exchanges_in (line ∷ []) ≡ [] = ap (λ o. cons_option o []) own in
+  pub answers_here : (asks : List (ℕ × Q)) (replies : List (ℕ × P)) (client after : ClientView Q P) (frame behind : List ℕ) (asked : Asked Q P) (parts : List P) (reply : P) (last : Bool) → client.has_come ≡ true → client.end ≡ None → client.asked ≡ None
+      → client.inbox ≡ frame ++ behind → cut_within rules.cut rules.longest client.inbox ≡ cut.Frame (length frame) → rules.Asks frame asked → IsReply asked parts reply → exchanges_of asked parts reply ≡ [] → (last ≡ false → IsLast asked → ⊥) → (last ≡ true → IsLast asked)
+      → Says (rules.shown reply parts) (record client { inbox = behind; is_last = last }) after → IsIdle asks replies client → IsTalk rules asks replies after
+  answers_here asks replies client after frame behind asked parts reply last come goes waits_not split is asks_it replies_it own not_last is_last says idle =
+      let line : Line Q P = record { frame = frame; asked = asked; parts = parts; reply = reply } in
+      let none : exchanges_in idle.lines ≡ exchanges_in (idle.lines ++ line ∷ []) = sym (exchanges_push idle.lines line ∙ ap (λ l. exchanges_in idle.lines ++ l) own ∙ append-nil (exchanges_in idle.lines)) in
       record {
         lines = idle.lines ++ line ∷ [];
         under_way = None;
         refused = None;
         astray = [];
         rest = behind;
-        unwritten = client.outbox ++ rules.shown reply;
+        unwritten = client.outbox ++ rules.shown reply parts;
         spoken = record {
-          asked = idle.spoken.asked ∙ ap (λ l. l ++ []) (sym (requests_push idle.lines line ∙ ap (λ l. requests_of (exchanges_in idle.lines) ++ requests_of l) none ∙ append-nil (requests_of (exchanges_in idle.lines))));
-          replied = idle.spoken.replied ∙ ap (λ l. l ++ []) (sym (replies_push idle.lines line ∙ ap (λ l. replies_of (exchanges_in idle.lines) ++ replies_of l) none ∙ append-nil (replies_of (exchanges_in idle.lines))));
+          asked = idle.spoken.asked ∙ ap (λ e. requests_of (e ++ []) ++ []) none;
+          replied = idle.spoken.replied ∙ ap (λ e. replies_of (e ++ []) ++ []) none;
           lines_are = all_push (IsLine rules) idle.lines line idle.spoken.lines_are (record { asks = asks_it; replies = replies_it });
           end_at_last = last_push idle.lines line idle.none_last;
           is_asked = tt;
         };
         kept = record {
-          known = says.same.asked ∙ waits_not;
+          known = (says.same.asked ∙ waits_not, says.same.several ∙ idle.alone);
           none_astray = λ e. refl;
           strays = λ e. absurd (let old = says.same.strays e in let never : ⊥ = cc (goes, old) in never);
           goes_on = λ e. record { not_last = all_push (λ (one : Line Q P). IsLast one.asked → ⊥) idle.lines line idle.none_last (not_last (sym says.same.is_last ∙ e)); no_fault = refl };
@@ -179,23 +189,77 @@ module _ {Q P C : Type 0} (rules : Rules Q P C) where
           empty = λ e _. not_both client.has_come come (sym says.same.has_come ∙ e);
         };
         carried = line_carried idle.lines line behind client.outbox (record client { inbox = behind; is_last = last }) after says
-            (told_cut client.told (map (λ one. one.frame) idle.lines) client.inbox frame behind (shown_of rules idle.lines) client.outbox parts is idle.told) (λ e. refl) (λ e. refl) (subst (λ e. IsAll rules e behind (client.outbox ++ rules.shown reply)) (sym goes) tt) (λ e. cc (goes, e));
+            (told_cut client.told (map (λ one. one.frame) idle.lines) client.inbox frame behind (shown_of rules idle.lines) client.outbox split is idle.told) (λ e. refl) (λ e. refl) (subst (λ e. IsAll rules e behind (client.outbox ++ rules.shown reply parts)) (sym goes) tt) (λ e. cc (goes, e));
       }
 
+  -- memory was wanted once a frame was cut
+  cut_fails : (asks : List (ℕ × Q)) (replies : List (ℕ × P)) (client after : ClientView Q P) (behind : List ℕ) → client.has_come ≡ true → client.end ≡ None → after ≡ record client { inbox = behind; end = Some ends.Memory } → IsTalk rules asks replies client → IsTalk rules asks replies after
+  cut_fails asks replies client after behind come goes is talk = subst (IsTalk rules asks replies) (sym is) (record {
+    lines = talk.lines;
+    under_way = talk.under_way;
+    refused = talk.refused;
+    astray = talk.astray;
+    rest = talk.rest;
+    unwritten = talk.unwritten;
+    spoken = talk.spoken;
+    kept = record {
+      known = talk.kept.known;
+      none_astray = λ e. absurd (let never : ⊥ = cc e in never);
+      strays = λ e. absurd (let never : ⊥ = cc e in never);
+      goes_on = talk.kept.goes_on;
+      idle = talk.kept.idle;
+      over = talk.kept.over;
+      done = λ e. absurd (let never : ⊥ = cc e in never);
+      fresh = talk.kept.fresh;
+      empty = λ e _. not_both client.has_come come e;
+    };
+    carried = record {
+      told = talk.carried.told;
+      is_refused = talk.carried.is_refused;
+      inbox_is = λ e. absurd (let never : ⊥ = cc e in never);
+      outbox_is = λ e. absurd (let never : ⊥ = cc e in never);
+      all = tt;
+      nothing_left = λ e. absurd (let never : ⊥ = cc e in never);
+      answered = tt;
+    };
+  })
+
+  -- several cells are asked, of which the first is; or there is none
+  pub asks_each : (asks : List (ℕ × Q)) (replies : List (ℕ × P)) (client after : ClientView Q P) (frame behind : List ℕ) (all : Vec (ℕ × Q) Global) (reply : P) (new : List (ℕ × Q)) → client.has_come ≡ true → client.end ≡ None → client.asked ≡ None → client.is_last ≡ false
+      → client.inbox ≡ frame ++ behind → cut_within rules.cut rules.longest client.inbox ≡ cut.Frame (length frame) → rules.Asks frame (Each all reply) → IsWhose rules.cells (Each all reply)
+      → Begins rules all.items reply new (record client { inbox = behind }) after → IsTalk rules asks replies client → IsTalk rules (asks ++ new) replies after
+  asks_each asks replies client after frame behind all reply new come goes idle not_last split is asks_it whose (inr (none, failed)) talk =
+      subst (λ n. IsTalk rules n replies after) (sym (ap (λ n. asks ++ n) none ∙ append-nil asks))
+      (cut_fails asks replies client after behind come goes (failed ∙ ap (λ (e : Option End). record client { inbox = behind; end = ended_by ends.Memory e }) goes) talk)
+  asks_each asks replies client after frame behind all reply new come goes idle not_last split is asks_it whose (inl (next, nexts, turns)) talk = for next nexts turns where
+    for : (next : Next Q P) → IsNext all.items [] reply next → TurnsTo rules next new (record client { inbox = behind }) after → IsTalk rules (asks ++ new) replies after
+    for (Asks cell request several) nexts turns =
+        let low = (subst (AllByRecursion (λ (ask : ℕ × Q). ask.0 < rules.cells)) nexts.0 whose).0 in
+        let turn = turns low in
+        let state : several ≡ record { left = several.left; parts = []; reply = reply } = same_state several several.left [] reply refl nexts.1 nexts.2 in
+        subst (λ n. IsTalk rules (asks ++ n) replies after) (sym turn.1) (subst (IsTalk rules (asks ++ (cell, request) ∷ []) replies) (sym turn.0)
+        (asks_cell asks replies client frame behind (Each all reply) cell request several.left (Some several) come goes not_last split is (record { asks = asks_it; whose = whose; is_of = sym nexts.0 }) (ap Some state)
+        (idle_of asks replies client goes idle not_last talk)))
+    for (Whole own parts) nexts turns =
+        let none : parts.items ≡ [] = nexts.2 in
+        subst (λ n. IsTalk rules n replies after) (sym (ap (λ n. asks ++ n) turns.1 ∙ append-nil asks))
+        (answers_here asks replies client after frame behind (Each all reply) [] own client.is_last come goes idle split is asks_it (nexts.1, ap length (sym nexts.0)) (ap (λ a. exchanges_by a (let nothing : List P = [] in nothing)) nexts.0) (λ _ never. never) (λ last. not_both client.is_last last not_last)
+        (subst (λ p. Says (rules.shown own p) (record client { inbox = behind }) after) none turns.0) (idle_of asks replies client goes idle not_last talk))
+
   -- a fault is answered
-  pub refuses : (asks : List (ℕ × Q)) (replies : List (ℕ × P)) (client after : ClientView) (reply : P) → client.has_come ≡ true → client.end ≡ None → client.asked ≡ None
+  pub refuses : (asks : List (ℕ × Q)) (replies : List (ℕ × P)) (client after : ClientView Q P) (reply : P) → client.has_come ≡ true → client.end ≡ None → client.asked ≡ None
       → cut_within rules.cut rules.longest client.inbox ≡ cut.Fault → rules.Refuses reply
-      → Says (rules.shown reply) (record client { is_last = true }) after → IsIdle asks replies client → IsTalk rules asks replies after
+      → Says (rules.shown reply []) (record client { is_last = true }) after → IsIdle asks replies client → IsTalk rules asks replies after
   refuses asks replies client after reply come goes waits_not is refuses_so says idle = record {
     lines = idle.lines;
     under_way = None;
     refused = Some reply;
     astray = [];
     rest = client.inbox;
-    unwritten = client.outbox ++ rules.shown reply;
+    unwritten = client.outbox ++ rules.shown reply [];
     spoken = idle.spoken;
     kept = record {
-      known = says.same.asked ∙ waits_not;
+      known = (says.same.asked ∙ waits_not, says.same.several ∙ idle.alone);
       none_astray = λ e. refl;
       strays = λ e. absurd (let old = says.same.strays e in let never : ⊥ = cc (goes, old) in never);
       goes_on = λ e. absurd (let same = says.same.is_last in let never : ⊥ = cc (same, e) in never);
@@ -206,14 +270,14 @@ module _ {Q P C : Type 0} (rules : Rules Q P C) where
       empty = λ e _. not_both client.has_come come (sym says.same.has_come ∙ e);
     };
     carried = record {
-      told = subst (λ t. IfSome t (IsTold rules (map (λ one. one.frame) idle.lines ++ []) client.inbox (shown_of rules idle.lines ++ rules.shown reply) (client.outbox ++ rules.shown reply))) (sym says.told)
-          (subst (λ f. IfSome client.told (IsTold rules f client.inbox (shown_of rules idle.lines ++ rules.shown reply) (client.outbox ++ rules.shown reply))) (sym (append-nil (map (λ (one : Line Q P). one.frame) idle.lines)))
-          (told_shown client.told _ client.inbox _ client.outbox (rules.shown reply) idle.told));
+      told = subst (λ t. IfSome t (IsTold rules (map (λ one. one.frame) idle.lines ++ []) client.inbox (shown_of rules idle.lines ++ rules.shown reply []) (client.outbox ++ rules.shown reply []))) (sym says.told)
+          (subst (λ f. IfSome client.told (IsTold rules f client.inbox (shown_of rules idle.lines ++ rules.shown reply []) (client.outbox ++ rules.shown reply []))) (sym (append-nil (map (λ (one : Line Q P). one.frame) idle.lines)))
+          (told_shown client.told _ client.inbox _ client.outbox (rules.shown reply []) idle.told));
       is_refused = record { refuses = refuses_so; fault = is };
       inbox_is = λ e. sym says.inbox;
       outbox_is = λ e. sym (says.outbox e);
-      all = says_all (rules.shown reply) client.inbox (client.outbox ++ rules.shown reply) (record client { is_last = true }) after says (subst (λ e. IsAll rules e client.inbox (client.outbox ++ rules.shown reply)) (sym goes) tt);
-      nothing_left = λ e. absurd (says_not_left (rules.shown reply) (record client { is_last = true }) after says (λ left. cc (goes, left)) e);
-      answered = answered_none Q after.end;
+      all = says_all (rules.shown reply []) client.inbox (client.outbox ++ rules.shown reply []) (record client { is_last = true }) after says (subst (λ e. IsAll rules e client.inbox (client.outbox ++ rules.shown reply [])) (sym goes) tt);
+      nothing_left = λ e. absurd (says_not_left (rules.shown reply []) (record client { is_last = true }) after says (λ left. cc (goes, left)) e);
+      answered = answered_none Q P after.end;
     };
   }

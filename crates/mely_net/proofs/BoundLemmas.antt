@@ -8,14 +8,14 @@ use Rattle.mely_net.specs.Bounds.{AreAt, Mail, OneWaits, count_with}
 use Rattle.mely_net.specs.Lines.{exchanges_in}
 use Rattle.mely_net.specs.Messages.{replies_in, replies_sent, requests_in, requests_sent}
 use Rattle.mely_net.specs.Rules.{Rules}
-use Rattle.mely_net.specs.Talks.{Request, asked_by, replies_of, requests_of}
+use Rattle.mely_net.specs.Talks.{Request, asked_by, done_by, replies_of, requests_of}
 use Rattle.mely_net.proofs.ServedLemmas.{as_many, raised, with_peer}
 
 one_if : {X : Type 0} (b : Bool) (x : X) → length (cons_option (if b then Some x else None) []) ≤ 1
 one_if true x = omega arith
 one_if false x = omega arith
 
-one_at_most : {Q : Type 0} (cell : ℕ) (under_way : Option (Request Q)) → count_with cell (asked_by under_way) ≤ 1
+one_at_most : {Q P : Type 0} (cell : ℕ) (under_way : Option (Request Q P)) → count_with cell (asked_by under_way) ≤ 1
 one_at_most cell None = omega arith
 one_at_most cell (Some one) = one_if (one.cell == cell) one.request
 
@@ -23,11 +23,11 @@ one_at_most cell (Some one) = one_if (one.cell == cell) one.request
 count_both : {X : Type 0} (peer : ℕ) (xs ys : List (ℕ × X)) → count_with peer (xs ++ ys) ≡ count_with peer xs + count_with peer ys
 count_both peer xs ys = ap length (filter_map-append (with_peer peer) xs ys) ∙ length-append (filter_map (with_peer peer) xs) (filter_map (with_peer peer) ys)
 
-module _ {Q P C W L : Type 0} (rules : Rules Q P C) (l : LinkWords L) (client cell : ℕ) (of_client of_cell : Mail W L Q P) (value : Client L l) (kept : C) where
+module _ {Q P C W L : Type 0} (rules : Rules Q P C) (l : LinkWords L) (client cell : ℕ) (of_client of_cell : Mail W L Q P) (value : Client L Q P l) (kept : C) where
   pub one_waits : AreAt rules l client cell of_client of_cell value kept → OneWaits rules l client cell of_client of_cell
   one_waits at =
       let talk = at.connection.talk in
-      let exchanges = exchanges_in talk.lines in
+      let exchanges = exchanges_in talk.lines ++ done_by talk.under_way in
       let history = at.cell_is.history in
       let sent : count_with (cell + 1) (requests_sent of_client.sent) ≡ count_with cell at.connection.asks = ap (count_with (cell + 1)) at.connection.asked ∙ ap length (raised (λ n. n + 1) (λ n m (is : n + 1 ≡ m + 1). omega (arith, is)) cell at.connection.asks) in
       let asked : count_with cell at.connection.asks ≡ count_with cell (requests_of exchanges) + count_with cell (asked_by talk.under_way) = ap (count_with cell) talk.spoken.asked ∙ count_both cell (requests_of exchanges) (asked_by talk.under_way) in

@@ -1,17 +1,15 @@
 -- Frames, as more bytes come, and lines behind one another.
 use Rattle.std.proofs.Common.{◌≡◌, ℕ, Bool, true, false, List, [], ◌∷◌, ◌++◌, if◌then◌else◌, length, map, refl, sym, ◌∙◌, ap, subst, inl, inr}
 use Rattle.std.proofs.lemmas.List.{append-nil, append_assoc, map-append}
-use Rattle.std.proofs.lemmas.List.Elements.{filter_map-append}
 use Rattle.std.proofs.lemmas.Grind.{flat_map-append}
 use Rattle.std.specs.List.{AllByRecursion}
 use Rattle.std.specs.Prelude.{nat_le}
 use Rattle.mely_net.specs.declared.cut.Cut.{Cut}
 use Rattle.mely_net.specs.declared.cut.Cut.TheVariants.{More, Frame, Fault}
 use Rattle.mely_net.specs.Cutting.{AreFrames, IsSteady, Stands, cut_within, limited}
-use Rattle.mely_net.specs.Exchanges.{Exchange}
-use Rattle.mely_net.specs.Lines.{EndAtLast, HasLast, IsLast, Line, exchange_of, exchanges_in, shown_of}
+use Rattle.mely_net.specs.Lines.{EndAtLast, HasLast, IsLast, Line, exchanges_in, exchanges_of, shown_of}
 use Rattle.mely_net.specs.Rules.{Rules}
-use Rattle.mely_net.specs.Talks.{replies_of, requests_of}
+use Rattle.mely_net.specs.Several.{SeveralState}
 
 pub all_push : {X : Type 0} (P : X → Type 0) (xs : List X) (x : X) → AllByRecursion P xs → P x → AllByRecursion P (xs ++ x ∷ [])
 all_push P [] x all so = (so, tt)
@@ -60,20 +58,14 @@ frames_push cut longest bytes [] rest frame behind are parts is = (behind, are �
 frames_push cut longest bytes (one ∷ frames) rest frame behind are parts is = (are.0, are.1, are.2, frames_push cut longest are.0 frames rest frame behind are.3 parts is)
 
 module _ {Q P : Type 0} (lines : List (Line Q P)) (line : Line Q P) where
-  exchanges_push : exchanges_in (lines ++ line ∷ []) ≡ exchanges_in lines ++ exchanges_in (line ∷ [])
-  exchanges_push = filter_map-append (λ (one : Line Q P). exchange_of one.reply one.asked) lines (line ∷ [])
-
-  pub requests_push : requests_of (exchanges_in (lines ++ line ∷ [])) ≡ requests_of (exchanges_in lines) ++ requests_of (exchanges_in (line ∷ []))
-  requests_push = ap requests_of exchanges_push ∙ map-append (λ (one : Exchange Q P). (one.peer, one.request)) (exchanges_in lines) (exchanges_in (line ∷ []))
-
-  pub replies_push : replies_of (exchanges_in (lines ++ line ∷ [])) ≡ replies_of (exchanges_in lines) ++ replies_of (exchanges_in (line ∷ []))
-  replies_push = ap replies_of exchanges_push ∙ map-append (λ (one : Exchange Q P). (one.peer, one.reply)) (exchanges_in lines) (exchanges_in (line ∷ []))
+  pub exchanges_push : exchanges_in (lines ++ line ∷ []) ≡ exchanges_in lines ++ exchanges_of line.asked line.parts line.reply
+  exchanges_push = flat_map-append (λ (one : Line Q P). exchanges_of one.asked one.parts one.reply) lines (line ∷ []) ∙ ap (λ l. exchanges_in lines ++ l) (append-nil (exchanges_of line.asked line.parts line.reply))
 
   pub frames_of_push : map (λ (one : Line Q P). one.frame) (lines ++ line ∷ []) ≡ map (λ (one : Line Q P). one.frame) lines ++ line.frame ∷ []
   frames_of_push = map-append (λ (one : Line Q P). one.frame) lines (line ∷ [])
 
-  pub shown_push : {C : Type 0} (rules : Rules Q P C) → shown_of rules (lines ++ line ∷ []) ≡ shown_of rules lines ++ rules.shown line.reply
-  shown_push rules = flat_map-append (λ (one : Line Q P). rules.shown one.reply) lines (line ∷ []) ∙ ap (λ l. shown_of rules lines ++ l) (append-nil (rules.shown line.reply))
+  pub shown_push : {C : Type 0} (rules : Rules Q P C) → shown_of rules (lines ++ line ∷ []) ≡ shown_of rules lines ++ rules.shown line.reply line.parts
+  shown_push rules = flat_map-append (λ (one : Line Q P). rules.shown one.reply one.parts) lines (line ∷ []) ∙ ap (λ l. shown_of rules lines ++ l) (append-nil (rules.shown line.reply line.parts))
 
 -- a line that is the last
 pub has_last_push : {Q P : Type 0} (lines : List (Line Q P)) (line : Line Q P) → IsLast line.asked → HasLast (lines ++ line ∷ [])
@@ -84,3 +76,10 @@ has_last_push (one ∷ lines) line last = inr (has_last_push lines line last)
 pub last_push : {Q P : Type 0} (lines : List (Line Q P)) (line : Line Q P) → AllByRecursion (λ one. IsLast one.asked → ⊥) lines → EndAtLast (lines ++ line ∷ [])
 last_push [] line none = (λ last. refl, tt)
 last_push (one ∷ lines) line none = (λ last. absurd (none.0 last), last_push lines line none.1)
+
+-- a request of several cells is what it has
+pub same_state : {Q P : Type 0} (state : SeveralState Q P) (left : List (ℕ × Q)) (parts : List P) (reply : P) → state.left ≡ left → state.parts ≡ parts → state.reply ≡ reply → state ≡ record { left = left; parts = parts; reply = reply }
+same_state {Q} {P} state left parts reply one two three =
+    ap (λ (l : List (ℕ × Q)). let it : SeveralState Q P = record { left = l; parts = state.parts; reply = state.reply } in it) one
+    ∙ ap (λ (p : List P). let it : SeveralState Q P = record { left = left; parts = p; reply = state.reply } in it) two
+    ∙ ap (λ (r : P). let it : SeveralState Q P = record { left = left; parts = parts; reply = r } in it) three

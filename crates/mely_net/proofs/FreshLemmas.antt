@@ -45,22 +45,22 @@ all_yielded yielded rest all left split is none = sym (append-nil yielded) ∙ a
 
 -- ---- the cells among parts
 
-module _ {C W L : Type 0} {l : LinkWords L} where
-  none_in : (parts : List (Part C W L l)) → ((k : ℕ) (one : Part C W L l) → slice_get parts k ≡ Some one → cell_in one ≡ None) → cells_in parts ≡ []
+module _ {C W L Q P : Type 0} {l : LinkWords L} where
+  none_in : (parts : List (Part C W L Q P l)) → ((k : ℕ) (one : Part C W L Q P l) → slice_get parts k ≡ Some one → cell_in one ≡ None) → cells_in parts ≡ []
   none_in [] none = refl
   none_in (one ∷ parts) none = ap (λ o. cons_option o (cells_in parts)) (none 0 one refl) ∙ none_in parts (λ k other at. none (suc k) other at)
 
   -- cells that stand in front, and no others behind them
-  pub record InFront (parts : List (Part C W L l)) (count : ℕ) : Type 0 where
+  pub record InFront (parts : List (Part C W L Q P l)) (count : ℕ) : Type 0 where
     pub many : length (cells_in parts) ≡ count
     pub each : (k : ℕ) (value : C) → k < count → slice_get parts k ≡ Some (part.Cell value) → slice_get (cells_in parts) k ≡ Some value
 
-  is_cell_value : (one : Part C W L l) (value : C) → Some one ≡ Some (part.Cell value) → cell_in one ≡ Some value
+  is_cell_value : (one : Part C W L Q P l) (value : C) → Some one ≡ Some (part.Cell value) → cell_in one ≡ Some value
   is_cell_value (part.Desk desk) value is = absurd (let never : ⊥ = cc is in never)
   is_cell_value (part.Cell other) value is = let same : other ≡ value = cc is in ap Some same
   is_cell_value (part.Client client) value is = absurd (let never : ⊥ = cc is in never)
 
-  pub in_front : (parts : List (Part C W L l)) (count : ℕ) → ((k : ℕ) → k < count → (value : C) × (slice_get parts k ≡ Some (part.Cell value))) → ((k : ℕ) (one : Part C W L l) → count ≤ k → slice_get parts k ≡ Some one → cell_in one ≡ None) → InFront parts count
+  pub in_front : (parts : List (Part C W L Q P l)) (count : ℕ) → ((k : ℕ) → k < count → (value : C) × (slice_get parts k ≡ Some (part.Cell value))) → ((k : ℕ) (one : Part C W L Q P l) → count ≤ k → slice_get parts k ≡ Some one → cell_in one ≡ None) → InFront parts count
   in_front parts zero cells others = record {
     many = ap length (none_in parts (λ k one at. others k one (omega arith) at));
     each = λ k value low at. absurd (omega (arith, low));

@@ -3,7 +3,6 @@ mod MoveLemmas
 mod TalkLemmas
 mod AnswerLemmas
 mod HearLemmas
-mod PickLemmas
 mod PartLemmas
 mod ServedLemmas
 mod BoundLemmas

@@ -13,13 +13,14 @@ use Rattle.mely_net.specs.Clients.{IsFailure, Reads, ToldRead, ToldWrote, Writes
 use Rattle.mely_net.specs.Talks.{ClientView}
 
 -- the same connection, of which this is told and which has these bytes
-abbrev pub moved : ClientView → Bool → Option LinkContents → List ℕ → List ℕ → ClientView
+abbrev pub moved : {Q P : Type 0} → ClientView Q P → Bool → Option LinkContents → List ℕ → List ℕ → ClientView Q P
 moved before come told inbox outbox = record {
   has_come = come;
   told = told;
   inbox = inbox;
   outbox = outbox;
   asked = before.asked;
+  several = before.several;
   is_last = before.is_last;
   end = before.end;
 }
@@ -57,9 +58,9 @@ wrote_none : (told : Option LinkContents) → ToldWrote [] told told
 wrote_none None = refl
 wrote_none (Some told) = (told, refl, refl, sym (append-nil told.written))
 
-pub writes_none : (client : ClientView) → Writes client client
+pub writes_none : {Q P : Type 0} (client : ClientView Q P) → Writes client client
 writes_none client = record {
-  same = record { has_come = refl; asked = refl; is_last = refl; goes_on = λ e. e; strays = λ e. e; done = λ e. e };
+  same = record { has_come = refl; asked = refl; several = refl; is_last = refl; goes_on = λ e. e; strays = λ e. e; done = λ e. e };
   gone = [];
   left = client.outbox;
   all = refl;
@@ -69,14 +70,14 @@ writes_none client = record {
   end = inl refl;
 }
 
-module _ (before between : ClientView) (writes : Writes before between) (goes : between.end ≡ None) (come : Bool) (has : come ≡ between.has_come) (told : Option LinkContents) (front rest : List ℕ) (parts : between.outbox ≡ front ++ rest) (wrote : ToldWrote front between.told told) where
+module _ {Q P : Type 0} (before between : ClientView Q P) (writes : Writes before between) (goes : between.end ≡ None) (come : Bool) (has : come ≡ between.has_come) (told : Option LinkContents) (front rest : List ℕ) (parts : between.outbox ≡ front ++ rest) (wrote : ToldWrote front between.told told) where
   all_gone : before.outbox ≡ (writes.gone ++ front) ++ rest
   all_gone = writes.all ∙ ap (λ l. writes.gone ++ l) (sym (writes.outbox goes) ∙ parts) ∙ sym (append_assoc writes.gone front rest)
 
   -- a further write
   pub writes_more : Writes before (moved between come told between.inbox rest)
   writes_more = record {
-    same = record { has_come = has ∙ writes.same.has_come; asked = writes.same.asked; is_last = writes.same.is_last; goes_on = writes.same.goes_on; strays = writes.same.strays; done = writes.same.done };
+    same = record { has_come = has ∙ writes.same.has_come; asked = writes.same.asked; several = writes.same.several; is_last = writes.same.is_last; goes_on = writes.same.goes_on; strays = writes.same.strays; done = writes.same.done };
     gone = writes.gone ++ front;
     left = rest;
     all = all_gone;
@@ -89,7 +90,7 @@ module _ (before between : ClientView) (writes : Writes before between) (goes : 
   -- one that failed
   pub writes_end : (end : End) → IsFailure (Some end) → Writes before (after_leaving end (moved between come told between.inbox between.outbox))
   writes_end end fails = subst (λ (e : Option End). Writes before (record (moved between come told between.inbox between.outbox) { end = e })) (sym (ap (λ (e : Option End). ended_by end e) goes)) (record {
-    same = record { has_come = has ∙ writes.same.has_come; asked = writes.same.asked; is_last = writes.same.is_last; goes_on = λ e. absurd (let never : ⊥ = cc e in never); strays = λ e. absurd (subst IsFailure e fails); done = λ e. absurd (subst IsFailure e fails) };
+    same = record { has_come = has ∙ writes.same.has_come; asked = writes.same.asked; several = writes.same.several; is_last = writes.same.is_last; goes_on = λ e. absurd (let never : ⊥ = cc e in never); strays = λ e. absurd (subst IsFailure e fails); done = λ e. absurd (subst IsFailure e fails) };
     gone = writes.gone ++ front;
     left = rest;
     all = all_gone;
@@ -107,11 +108,11 @@ not_done : (end : End) → IsFailure (Some end) ⊎ (Some end ≡ Some ends.Left
 not_done end (inl fails) e = subst IsFailure e fails
 not_done end (inr left) e = cc (left, e)
 
-module _ (before : ClientView) (come : Bool) (has : come ≡ before.has_come) (told : Option LinkContents) (came inbox : List ℕ) (read : ToldRead came before.told told) where
+module _ {Q P : Type 0} (before : ClientView Q P) (come : Bool) (has : come ≡ before.has_come) (told : Option LinkContents) (came inbox : List ℕ) (read : ToldRead came before.told told) where
   -- bytes that came
   pub reads_more : before.end ≡ None → inbox ≡ before.inbox ++ came → Reads before (moved before come told inbox before.outbox)
   reads_more goes more = record {
-    same = record { has_come = has; asked = refl; is_last = refl; goes_on = λ e. e; strays = λ e. e; done = λ e. e };
+    same = record { has_come = has; asked = refl; several = refl; is_last = refl; goes_on = λ e. e; strays = λ e. e; done = λ e. e };
     came = came;
     told = read;
     inbox = λ e. more;
@@ -123,7 +124,7 @@ module _ (before : ClientView) (come : Bool) (has : come ≡ before.has_come) (t
   -- a read that ended the connection
   pub reads_end : (end : End) → before.end ≡ None → IsFailure (Some end) ⊎ (Some end ≡ Some ends.Left) → (Some end ≡ Some ends.Left → (came ≡ []) × IfSome told (λ t. t.left ≡ [])) → Reads before (after_leaving end (moved before come told inbox before.outbox))
   reads_end end goes how all = subst (λ (e : Option End). Reads before (record (moved before come told inbox before.outbox) { end = e })) (sym (ap (λ (e : Option End). ended_by end e) goes)) (record {
-    same = record { has_come = has; asked = refl; is_last = refl; goes_on = λ e. absurd (let never : ⊥ = cc e in never); strays = λ e. absurd (not_astray end how e); done = λ e. absurd (not_done end how e) };
+    same = record { has_come = has; asked = refl; several = refl; is_last = refl; goes_on = λ e. absurd (let never : ⊥ = cc e in never); strays = λ e. absurd (not_astray end how e); done = λ e. absurd (not_done end how e) };
     came = came;
     told = read;
     inbox = λ e. absurd (let never : ⊥ = cc e in never);

@@ -1,5 +1,5 @@
 -- What the desk, a cell and a connection keep at a message.
-use Rattle.std.proofs.Common.{◌≡◌, ◌<◌, ◌+◌, ◌-◌, ℕ, List, [], ◌∷◌, ◌++◌, None, length, map, refl, sym, ◌∙◌, ap, subst, arith}
+use Rattle.std.proofs.Common.{◌≡◌, ◌<◌, ◌+◌, ◌-◌, ℕ, Bool, true, false, List, [], ◌∷◌, ◌++◌, Option, None, length, map, refl, sym, ◌∙◌, ap, subst, arith}
 use Rattle.std.proofs.lemmas.List.{append-nil, map-append}
 use Rattle.std.proofs.lemmas.List.Elements.{filter_map-append}
 use Rattle.std.proofs.lemmas.Option.{slice_get_within}
@@ -13,10 +13,12 @@ use Rattle.mely_net.specs.declared.part.Part.{Part}
 use Rattle.mely_net.specs.declared.part.Part.TheVariants as part
 use Rattle.mely_net.specs.Clients.{shown_client, to_come}
 use Rattle.mely_net.specs.Exchanges.{Exchange, IsAt, Steps}
-use Rattle.mely_net.specs.Messages.{IsQuiet, IsSigned, at, replies_in, replies_sent, reply_in, request_in, requests_in, requests_sent}
-use Rattle.mely_net.specs.Parts.{Gets, IsCell, IsConnection, IsFresh, IsPart, KeepsPart, Sends}
+use Rattle.sws_link.specs.Links.{LinkContents}
+use Rattle.sws_link.specs.Worlds.{WorldContents}
+use Rattle.mely_net.specs.Messages.{IsClient, IsQuiet, IsSigned, MayGet, at, replies_in, replies_sent, reply_in, request_in, requests_in, requests_sent}
+use Rattle.mely_net.specs.Parts.{Gets, IsCell, IsConnection, IsFresh, IsPart, KeepsPart, is_own}
 use Rattle.mely_net.specs.Rules.{Rules}
-use Rattle.mely_net.specs.Talks.{ClientView, IsTalk, replies_of}
+use Rattle.mely_net.specs.Talks.{IsTalk, replies_of}
 use Rattle.mely_net.proofs.FrameLemmas.{all_both}
 
 module _ {Q P C : Type 0} (rules : Rules Q P C) where
@@ -31,7 +33,7 @@ module _ {Q P C : Type 0} (rules : Rules Q P C) where
     unwritten = [];
     spoken = record { asked = refl; replied = refl; lines_are = tt; end_at_last = tt; is_asked = tt };
     kept = record {
-      known = refl;
+      known = (refl, refl);
       none_astray = λ _. refl;
       strays = λ e _. cc e;
       goes_on = λ _. record { not_last = tt; no_fault = refl };
@@ -79,18 +81,49 @@ module _ {Q P C W L : Type 0} (rules : Rules Q P C) where
           steps = steps_push rules (colour.0 - 1) kept.history first value after one kept.steps serves;
         }
 
-    -- a connection that gets a message, and sends
-    pub connection_goes : (message : Message W L Q P) (before after : Client L l) (between : ClientView) → Gets rules message (shown_client before) between → Sends rules between (shown_client after) new
+    -- a connection that gets a message, and asks
+    pub connection_goes : (message : Message W L Q P) (before after : Client L Q P l) (asks : List (ℕ × Q)) → Gets rules message asks (shown_client before) (shown_client after) → requests_sent new ≡ map (λ ask. (ask.0 + 1, ask.1)) asks → AllByRecursion (λ ask. ask.0 < rules.cells) asks
         → IsConnection rules l colour received sent before → IsConnection rules l colour (received ++ message ∷ []) (sent ++ new) after
-    connection_goes message before after between gets sends kept = record {
+    connection_goes message before after asks gets sends there kept = record {
       behind = kept.behind;
-      asks = kept.asks ++ sends.asks;
-      asked = filter_map-append (λ (send : Colour × Message W L Q P). at send.0.0 (request_in send.1)) sent new ∙ ap (λ s. s ++ requests_sent new) kept.asked ∙ ap (λ s. map (λ (ask : ℕ × Q). (ask.0 + 1, ask.1)) kept.asks ++ s) sends.sent
-          ∙ sym (map-append (λ (ask : ℕ × Q). (ask.0 + 1, ask.1)) kept.asks sends.asks);
-      there = all_both (λ (ask : ℕ × Q). ask.0 < rules.cells) kept.asks sends.asks kept.there sends.there;
-      talk = subst (λ r. IsTalk rules (kept.asks ++ sends.asks) r (shown_client after)) (sym (filter_map-append reply_in received (message ∷ [])))
-          (sends.keeps kept.asks (replies_in received ++ replies_in (message ∷ [])) (gets kept.asks (replies_in received) kept.talk));
+      asks = kept.asks ++ asks;
+      asked = filter_map-append (λ (send : Colour × Message W L Q P). at send.0.0 (request_in send.1)) sent new ∙ ap (λ s. s ++ requests_sent new) kept.asked ∙ ap (λ s. map (λ (ask : ℕ × Q). (ask.0 + 1, ask.1)) kept.asks ++ s) sends
+          ∙ sym (map-append (λ (ask : ℕ × Q). (ask.0 + 1, ask.1)) kept.asks asks);
+      there = all_both (λ (ask : ℕ × Q). ask.0 < rules.cells) kept.asks asks kept.there there;
+      talk = subst (λ r. IsTalk rules (kept.asks ++ asks) r (shown_client after)) (sym (filter_map-append reply_in received (message ∷ [])))
+          (gets kept.asks (replies_in received) kept.talk);
     }
+
+    -- one that gets a message which isn't for it
+    pub connection_stays : (message : Message W L Q P) (client : Client L Q P l) → reply_in message ≡ None → new ≡ [] → IsConnection rules l colour received sent client → IsConnection rules l colour (received ++ message ∷ []) (sent ++ new) client
+    connection_stays message client no_reply none kept = record {
+      behind = kept.behind;
+      asks = kept.asks;
+      asked = ap (λ s. requests_sent (sent ++ s)) none ∙ ap requests_sent (append-nil sent) ∙ kept.asked;
+      there = kept.there;
+      talk = subst (λ r. IsTalk rules kept.asks r (shown_client client)) (sym (filter_map-append reply_in received (message ∷ []) ∙ ap (λ o. replies_in received ++ cons_option o []) no_reply ∙ append-nil (replies_in received))) kept.talk;
+    }
+
+-- a message that is for no connection replies nothing, and one that is comes to a connection
+pub not_own : {W L Q P : Type 0} (message : Message W L Q P) → is_own message ≡ false → reply_in message ≡ None
+not_own (Poll held) is = refl
+not_own (Accept held) is = refl
+not_own (Wait client) is = refl
+not_own (Open link) is = refl
+not_own Wake is = refl
+not_own Leave is = refl
+not_own (Ask client request) is = refl
+not_own (Reply cell reply) is = absurd (let never : ⊥ = cc is in never)
+
+pub own_client : {W L Q P : Type 0} (tells : W → WorldContents) (link_tells : L → Option LinkContents) (is_shut : L → Bool) (cells clients : ℕ) (colour : Colour) (message : Message W L Q P) → is_own message ≡ true → MayGet tells link_tells is_shut cells clients colour message → IsClient cells clients colour
+own_client tells link_tells is_shut cells clients colour (Poll held) is may = absurd (let never : ⊥ = cc is in never)
+own_client tells link_tells is_shut cells clients colour (Accept held) is may = absurd (let never : ⊥ = cc is in never)
+own_client tells link_tells is_shut cells clients colour (Wait client) is may = absurd (let never : ⊥ = cc is in never)
+own_client tells link_tells is_shut cells clients colour (Open link) is may = may.0
+own_client tells link_tells is_shut cells clients colour Wake is may = may
+own_client tells link_tells is_shut cells clients colour Leave is may = may
+own_client tells link_tells is_shut cells clients colour (Ask client request) is may = absurd (let never : ⊥ = cc is in never)
+own_client tells link_tells is_shut cells clients colour (Reply cell reply) is may = may.0
 
 -- who neither asks nor replies signs nothing
 quiet_one : {W L Q P : Type 0} (cells : ℕ) (sender : Colour) (message : Message W L Q P) → IsQuiet message → IsSigned cells sender message
@@ -108,7 +141,7 @@ quiet_signed cells sender [] quiet = tt
 quiet_signed cells sender (send ∷ sends) quiet = (quiet_one cells sender send.1 quiet.0, quiet_signed cells sender sends quiet.1)
 
 -- a colour keeps what its part does, and signs what it sends
-module _ {Q P C W L : Type 0} (rules : Rules Q P C) (l : LinkWords L) (Begins : ℕ → C → Type 0) (colour : Colour) (received after_received : List (Message W L Q P)) (sent new : List (Colour × Message W L Q P)) (before after : Part C W L l) (signed : AllByRecursion (λ send. IsSigned rules.cells colour send.1) new) where
+module _ {Q P C W L : Type 0} (rules : Rules Q P C) (l : LinkWords L) (Begins : ℕ → C → Type 0) (colour : Colour) (received after_received : List (Message W L Q P)) (sent new : List (Colour × Message W L Q P)) (before after : Part C W L Q P l) (signed : AllByRecursion (λ send. IsSigned rules.cells colour send.1) new) where
   pub part_goes : (IsPart rules l Begins colour received sent before → IsPart rules l Begins colour after_received (sent ++ new) after) → KeepsPart rules l Begins colour received sent before → KeepsPart rules l Begins colour after_received (sent ++ new) after
   part_goes goes kept = record {
     signed = all_both (λ (send : Colour × Message W L Q P). IsSigned rules.cells colour send.1) sent new kept.signed signed;
@@ -117,7 +150,7 @@ module _ {Q P C W L : Type 0} (rules : Rules Q P C) (l : LinkWords L) (Begins : 
 
 -- what a run begins with keeps all that is asked of it
 module _ {Q P C W L : Type 0} (rules : Rules Q P C) (l : LinkWords L) (cells : List C) (many : length cells ≡ rules.cells) where
-  fresh_part : (number : ℕ) (one : Part C W L l) → IsFresh cells number one → IsPart rules l (IsAt cells) (record { 0 = number }) (let nothing : List (Message W L Q P) = [] in nothing) [] one
+  fresh_part : (number : ℕ) (one : Part C W L Q P l) → IsFresh cells number one → IsPart rules l (IsAt cells) (record { 0 = number }) (let nothing : List (Message W L Q P) = [] in nothing) [] one
   fresh_part number (part.Desk desk) is = is
   fresh_part number (part.Cell value) is = record {
     first = value;
@@ -139,5 +172,5 @@ module _ {Q P C W L : Type 0} (rules : Rules Q P C) (l : LinkWords L) (cells : L
     talk = subst (IsTalk rules [] []) (sym is.1) (talk_begun rules);
   }
 
-  pub fresh_keeps : (number : ℕ) (one : Part C W L l) → IsFresh cells number one → KeepsPart rules l (IsAt cells) (record { 0 = number }) (let nothing : List (Message W L Q P) = [] in nothing) [] one
+  pub fresh_keeps : (number : ℕ) (one : Part C W L Q P l) → IsFresh cells number one → KeepsPart rules l (IsAt cells) (record { 0 = number }) (let nothing : List (Message W L Q P) = [] in nothing) [] one
   fresh_keeps number one is = record { signed = tt; is = fresh_part number one is }

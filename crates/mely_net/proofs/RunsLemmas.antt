@@ -18,18 +18,18 @@ module _ {Q P C : Type 0} (rules : Rules Q P C) (cell : ℕ) where
   steps_both first between last (exchange ∷ one) two steps more = (steps.0, steps.1, steps_both steps.0 between last one two steps.2 more)
 
 module _ {Q P C W L : Type 0} (rules : Rules Q P C) (l : LinkWords L) where
-  no_cell : (desk : _) (one : Part C W L l) (rest : List (Part C W L l)) → one ≡ part.Desk desk → cells_in (one ∷ rest) ≡ cells_in rest
+  no_cell : (desk : _) (one : Part C W L Q P l) (rest : List (Part C W L Q P l)) → one ≡ part.Desk desk → cells_in (one ∷ rest) ≡ cells_in rest
   no_cell desk (part.Desk other) rest is = refl
   no_cell desk (part.Cell value) rest is = absurd (let never : ⊥ = cc is in never)
   no_cell desk (part.Client client) rest is = absurd (let never : ⊥ = cc is in never)
 
-  is_client_part : (value : _) (one : Part C W L l) → one ≡ part.Client value → cell_in one ≡ None
+  is_client_part : (value : _) (one : Part C W L Q P l) → one ≡ part.Client value → cell_in one ≡ None
   is_client_part value (part.Desk desk) is = refl
   is_client_part value (part.Cell other) is = absurd (let never : ⊥ = cc is in never)
   is_client_part value (part.Client client) is = refl
 
   -- the cells of a run that came to its end are all there are
-  pub cells_are : (Begins : ℕ → C → Type 0) (clients : ℕ) (parts : List (Part C W L l)) → HasServedFrom rules l Begins clients parts → (length (cells_in parts) ≡ rules.cells)
+  pub cells_are : (Begins : ℕ → C → Type 0) (clients : ℕ) (parts : List (Part C W L Q P l)) → HasServedFrom rules l Begins clients parts → (length (cells_in parts) ≡ rules.cells)
       × ((cell : ℕ) (value : C) → cell < rules.cells → slice_get parts (cell + 1) ≡ Some (part.Cell value) → slice_get (cells_in parts) cell ≡ Some value)
   cells_are Begins clients [] served = absurd (let none = served.asking in cc none)
   cells_are Begins clients (one ∷ rest) served =
@@ -41,7 +41,7 @@ module _ {Q P C W L : Type 0} (rules : Rules Q P C) (l : LinkWords L) where
       next : (k : ℕ) → k + 1 ≡ suc k
       next k = omega arith
 
-      others : (k : ℕ) (other : Part C W L l) → rules.cells ≤ k → slice_get rest k ≡ Some other → cell_in other ≡ None
+      others : (k : ℕ) (other : Part C W L Q P l) → rules.cells ≤ k → slice_get rest k ≡ Some other → cell_in other ≡ None
       others k other high at =
           let many = served.many in
           let within = slice_get_within rest k other at in
@@ -49,7 +49,7 @@ module _ {Q P C W L : Type 0} (rules : Rules Q P C) (l : LinkWords L) where
           let place : k - rules.cells + rules.cells + 1 ≡ suc k = omega (arith, high) in
           is_client_part client.0 other (same_Some other (part.Client client.0) (sym at ∙ sym (ap (slice_get (one ∷ rest)) place) ∙ client.1))
 
-  pub one_history : (cell : ℕ) (cells : List C) (runs : List (Run C W L l)) (last : List C) → length cells ≡ rules.cells → cell < rules.cells → (followed : HaveFollowed rules l cells runs last) → HasOneHistory rules l cell cells runs last followed
+  pub one_history : (cell : ℕ) (cells : List C) (runs : List (Run C W L Q P l)) (last : List C) → length cells ≡ rules.cells → cell < rules.cells → (followed : HaveFollowed rules l cells runs last) → HasOneHistory rules l cell cells runs last followed
   one_history cell cells [] last many low followed =
       let at = there cells cell (omega (arith, many, low)) in
       record { first = at.0; begins = at.1; value = at.0; ends = ap (λ c. slice_get c cell) followed ∙ at.1; steps = refl }

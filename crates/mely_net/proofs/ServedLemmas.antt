@@ -28,9 +28,10 @@ use Rattle.mely_net.specs.Lines.{IsFramed, Line, exchanges_in, shown_of, shown_t
 use Rattle.mely_net.specs.Messages.{IsSigned, MayGet, at, replies_in, replies_sent, reply_in, request_in, requests_in, requests_sent}
 use Rattle.mely_net.specs.Parts.{HasBegun, IsConnection, IsPart, KeepsPart}
 use Rattle.mely_net.specs.Rules.{Rules}
+use Rattle.mely_net.specs.Several.{SeveralState}
 use Rattle.mely_net.specs.Served.{HasHalted, HasServedFrom, IsAnswered}
-use Rattle.mely_net.specs.Talks.{IsKnown, IsTold, Request, asked_by, frame_of, replies_of, requests_of, told_by}
-use Rattle.mely_net.proofs.PickLemmas.{picked_from, picked_mapped, picked_same, picked_twice, all_the_same}
+use Rattle.mely_net.specs.Talks.{IsKnown, IsTold, Request, asked_by, done_by, frame_of, replies_of, requests_of, told_by}
+use Rattle.mely_actor.proofs.PickLemmas.{picked_from, picked_mapped, picked_same, picked_twice, all_the_same}
 
 get_there : {X : Type 0} (xs : List X) (n : ℕ) → n < length xs → (x : X) × (slice_get xs n ≡ Some x)
 get_there [] n low = absurd (omega (arith, low))
@@ -208,14 +209,14 @@ one_of {X} n m x same xs = ap (λ (o : Option X). length (cons_option o xs)) (pi
 none_of : {X : Type 0} (n m : ℕ) (x : X) → n ≢ m → (xs : List X) → length (cons_option (if n == m then Some x else None) xs) ≡ length xs
 none_of {X} n m x apart xs = ap (λ (o : Option X). length (cons_option o xs)) (picks_none x n m apart)
 
-nothing_left : {Q P : Type 0} (cells : ℕ) (astray : List (ℕ × P)) (under_way : Option (Request Q)) (asked : Option ℕ) → IsKnown astray under_way asked → AllByRecursion (λ reply. reply.0 < cells) astray → AllByRecursion (λ ask. ask.0 < cells) (asked_by under_way)
+nothing_left : {Q P : Type 0} (cells : ℕ) (astray : List (ℕ × P)) (under_way : Option (Request Q P)) (asked : Option ℕ) (several : Option (SeveralState Q P)) → IsKnown astray under_way asked several → AllByRecursion (λ reply. reply.0 < cells) astray → AllByRecursion (λ ask. ask.0 < cells) (asked_by under_way)
     → ((cell : ℕ) → cell < cells → length (filter_map (with_peer cell) (asked_by under_way)) ≡ length (filter_map (with_peer cell) astray)) → (astray ≡ []) × (under_way ≡ None)
-nothing_left cells [] None asked known replies asks same = (refl, refl)
-nothing_left cells [] (Some one) asked known replies asks same =
+nothing_left cells [] None asked several known replies asks same = (refl, refl)
+nothing_left cells [] (Some one) asked several known replies asks same =
     absurd (let many = same one.cell asks.0 in let here = one_of one.cell one.cell one.request refl [] in omega (arith, many, here))
-nothing_left cells (reply ∷ astray) None asked known replies asks same =
+nothing_left cells (reply ∷ astray) None asked several known replies asks same =
     absurd (let many = same reply.0 replies.0 in let here = one_of reply.0 reply.0 reply.1 refl (filter_map (with_peer reply.0) astray) in omega (arith, many, here))
-nothing_left cells (reply ∷ astray) (Some one) asked known replies asks same =
+nothing_left cells (reply ∷ astray) (Some one) asked several known replies asks same =
     absurd (let many = same reply.0 replies.0 in let here = one_of reply.0 reply.0 reply.1 refl (filter_map (with_peer reply.0) astray) in let none = none_of one.cell reply.0 one.request known.1 [] in omega (arith, many, here, none))
 
 post_none : {M X : Type 0} (pick : M → Option X) (b : Bool) (message : M) → pick message ≡ None → filter_map pick (cons_option (if b then Some message else None) []) ≡ []
@@ -223,29 +224,29 @@ post_none pick true message none = ap (λ o. cons_option o []) none
 post_none pick false message none = refl
 
 module _ {Q P C W L : Type 0} (rules : Rules Q P C) (l : LinkWords L) (Begins : ℕ → C → Type 0) (c : Colour) (received : List (Message W L Q P)) (sent : List (Colour × Message W L Q P)) where
-  is_desk : (kept : Part C W L l) → c.0 ≡ 0 → IsPart rules l Begins c received sent kept → (desk : Desk W) × (kept ≡ part.Desk desk)
+  is_desk : (kept : Part C W L Q P l) → c.0 ≡ 0 → IsPart rules l Begins c received sent kept → (desk : Desk W) × (kept ≡ part.Desk desk)
   is_desk (part.Desk desk) none is = (desk, refl)
   is_desk (part.Cell value) none is = absurd (let behind = is.is.behind in omega (arith, none, behind))
   is_desk (part.Client client) none is = absurd (let behind = is.behind in omega (arith, none, behind))
 
-  pub is_cell : (kept : Part C W L l) → 0 < c.0 → c.0 ≤ rules.cells → IsPart rules l Begins c received sent kept → (value : C) × (kept ≡ part.Cell value) × HasBegun rules l Begins c received sent value
+  pub is_cell : (kept : Part C W L Q P l) → 0 < c.0 → c.0 ≤ rules.cells → IsPart rules l Begins c received sent kept → (value : C) × (kept ≡ part.Cell value) × HasBegun rules l Begins c received sent value
   is_cell (part.Desk desk) some few is = absurd (omega (arith, some, is))
   is_cell (part.Cell value) some few is = (value, refl, is)
   is_cell (part.Client client) some few is = absurd (let behind = is.behind in omega (arith, few, behind))
 
-  is_client : (kept : Part C W L l) → rules.cells < c.0 → IsPart rules l Begins c received sent kept → (client : Client L l) × (kept ≡ part.Client client) × IsConnection rules l c received sent client
+  is_client : (kept : Part C W L Q P l) → rules.cells < c.0 → IsPart rules l Begins c received sent kept → (client : Client L Q P l) × (kept ≡ part.Client client) × IsConnection rules l c received sent client
   is_client (part.Desk desk) many is = absurd (omega (arith, many, is))
   is_client (part.Cell value) many is = absurd (let there = is.is.there in omega (arith, many, there))
   is_client (part.Client client) many is = (client, refl, is)
 
-module _ {A Q P C W L : Type 0} (rules : Rules Q P C) (l : LinkWords L) (Begins : ℕ → C → Type 0) (a : ActorWords A (Part C W L l) (Message W L Q P)) (tells : W → WorldContents) (clients : ℕ) (actor : A) (setup : Setup) (posts : List (Colour × Message W L Q P)) (held : Held W) (posted : posts ≡ (record { 0 = 0 }, Poll held) ∷ []) (histories : List (List Entry)) (parts : List (Part C W L l))
+module _ {A Q P C W L : Type 0} (rules : Rules Q P C) (l : LinkWords L) (Begins : ℕ → C → Type 0) (a : ActorWords A (Part C W L Q P l) (Message W L Q P)) (tells : W → WorldContents) (clients : ℕ) (actor : A) (setup : Setup) (posts : List (Colour × Message W L Q P)) (held : Held W) (posted : posts ≡ (record { 0 = 0 }, Poll held) ∷ []) (histories : List (List Entry)) (parts : List (Part C W L Q P l))
     (kept : AreKept a actor setup posts histories parts) (colours : colours_of setup ≡ rules.cells + clients + 1)
-    (keeps : (c : Colour) (received : List (Message W L Q P)) (sent : List (Colour × Message W L Q P)) (part : Part C W L l) → a.kept actor c received sent part → KeepsPart rules l Begins c received sent part)
+    (keeps : (c : Colour) (received : List (Message W L Q P)) (sent : List (Colour × Message W L Q P)) (part : Part C W L Q P l) → a.kept actor c received sent part → KeepsPart rules l Begins c received sent part)
     (sounds : (c : Colour) (message : Message W L Q P) → a.sound actor c message → MayGet tells l.tells l.is_shut rules.cells clients c message) where
   sound_at : (c : Colour) → c.0 < rules.cells + clients + 1 → AllByRecursion (MayGet tells l.tells l.is_shut rules.cells clients c) (kept.received c)
   sound_at c low = all_from (a.sound actor c) (MayGet tells l.tells l.is_shut rules.cells clients c) (kept.received c) (sounds c) (kept.sound c (omega (arith, low, colours)))
 
-  part_at : (c : Colour) → c.0 < rules.cells + clients + 1 → (one : Part C W L l) × (slice_get parts c.0 ≡ Some one) × KeepsPart rules l Begins c (kept.received c) (kept.sent c) one
+  part_at : (c : Colour) → c.0 < rules.cells + clients + 1 → (one : Part C W L Q P l) × (slice_get parts c.0 ≡ Some one) × KeepsPart rules l Begins c (kept.received c) (kept.sent c) one
   part_at c low =
       let many = kept.many in
       let there = get_there parts c.0 (omega (arith, low, many, colours)) in
@@ -261,7 +262,7 @@ module _ {A Q P C W L : Type 0} (rules : Rules Q P C) (l : LinkWords L) (Begins 
       let is = is_cell rules l Begins c (kept.received c) (kept.sent c) at_.0 (omega arith) (omega (arith, low)) at_.2.is in
       (is.0, at_.1 ∙ ap Some is.1, is.2)
 
-  client_at : (client : ℕ) → client < clients → (value : Client L l) × (slice_get parts (client + rules.cells + 1) ≡ Some (part.Client value)) × IsConnection rules l (record { 0 = client + rules.cells + 1 }) (kept.received (record { 0 = client + rules.cells + 1 })) (kept.sent (record { 0 = client + rules.cells + 1 })) value
+  client_at : (client : ℕ) → client < clients → (value : Client L Q P l) × (slice_get parts (client + rules.cells + 1) ≡ Some (part.Client value)) × IsConnection rules l (record { 0 = client + rules.cells + 1 }) (kept.received (record { 0 = client + rules.cells + 1 })) (kept.sent (record { 0 = client + rules.cells + 1 })) value
   client_at client low =
       let c : Colour = record { 0 = client + rules.cells + 1 } in
       let at_ = part_at c (omega (arith, low)) in
@@ -309,7 +310,7 @@ module _ {A Q P C W L : Type 0} (rules : Rules Q P C) (l : LinkWords L) (Begins 
     left_same : length (filter_map (with_peer cell) (asked_by (client_at client low).2.talk.under_way)) ≡ length (filter_map (with_peer cell) (client_at client low).2.talk.astray)
     left_same =
         let talk = (client_at client low).2.talk in
-        let exchanges = exchanges_in talk.lines in
+        let exchanges = exchanges_in talk.lines ++ done_by talk.under_way in
         let asked = ap (λ l. length (filter_map (with_peer cell) l)) talk.spoken.asked ∙ ap length (filter_map-append (with_peer cell) (requests_of exchanges) (asked_by talk.under_way)) ∙ length-append (filter_map (with_peer cell) (requests_of exchanges)) (filter_map (with_peer cell) (asked_by talk.under_way)) in
         let replied = ap (λ l. length (filter_map (with_peer cell) l)) talk.spoken.replied ∙ ap length (filter_map-append (with_peer cell) (replies_of exchanges) talk.astray) ∙ length-append (filter_map (with_peer cell) (replies_of exchanges)) (filter_map (with_peer cell) talk.astray) in
         let here = as_many cell exchanges in
@@ -325,20 +326,20 @@ module _ {A Q P C W L : Type 0} (rules : Rules Q P C) (l : LinkWords L) (Begins 
         let c : Colour = record { 0 = client + rules.cells + 1 } in
         let conn = (client_at client low).2 in
         let talk = conn.talk in
-        nothing_left rules.cells talk.astray talk.under_way (client_at client low).0.asked talk.kept.known
-        (all_behind (λ (reply : ℕ × P). reply.0 < rules.cells) (replies_of (exchanges_in talk.lines)) talk.astray (subst (AllByRecursion (λ (reply : ℕ × P). reply.0 < rules.cells)) talk.spoken.replied (replies_known rules.cells tells l.tells l.is_shut clients c (kept.received c) (sound_at c (omega (arith, low))))))
-        (all_behind (λ (ask : ℕ × Q). ask.0 < rules.cells) (requests_of (exchanges_in talk.lines)) (asked_by talk.under_way) (subst (AllByRecursion (λ (ask : ℕ × Q). ask.0 < rules.cells)) talk.spoken.asked conn.there))
+        nothing_left rules.cells talk.astray talk.under_way (client_at client low).0.asked (client_at client low).0.several talk.kept.known
+        (all_behind (λ (reply : ℕ × P). reply.0 < rules.cells) (replies_of (exchanges_in talk.lines ++ done_by talk.under_way)) talk.astray (subst (AllByRecursion (λ (reply : ℕ × P). reply.0 < rules.cells)) talk.spoken.replied (replies_known rules.cells tells l.tells l.is_shut clients c (kept.received c) (sound_at c (omega (arith, low))))))
+        (all_behind (λ (ask : ℕ × Q). ask.0 < rules.cells) (requests_of (exchanges_in talk.lines ++ done_by talk.under_way)) (asked_by talk.under_way) (subst (AllByRecursion (λ (ask : ℕ × Q). ask.0 < rules.cells)) talk.spoken.asked conn.there))
         (λ cell few. left_same client cell low few)
 
     all_asked : (client_at client low).2.asks ≡ requests_of (exchanges_in (client_at client low).2.talk.lines)
     all_asked =
         let talk = (client_at client low).2.talk in
-        talk.spoken.asked ∙ ap (λ u. requests_of (exchanges_in talk.lines) ++ asked_by u) settled.1 ∙ append-nil (requests_of (exchanges_in talk.lines))
+        talk.spoken.asked ∙ ap (λ u. requests_of (exchanges_in talk.lines ++ done_by u) ++ asked_by u) settled.1 ∙ append-nil (requests_of (exchanges_in talk.lines ++ [])) ∙ ap requests_of (append-nil (exchanges_in talk.lines))
 
     all_replied : replies_in (kept.received (record { 0 = client + rules.cells + 1 })) ≡ replies_of (exchanges_in (client_at client low).2.talk.lines)
     all_replied =
         let talk = (client_at client low).2.talk in
-        talk.spoken.replied ∙ ap (λ r. replies_of (exchanges_in talk.lines) ++ r) settled.0 ∙ append-nil (replies_of (exchanges_in talk.lines))
+        talk.spoken.replied ∙ ap (λ r. replies_of (exchanges_in talk.lines ++ done_by talk.under_way) ++ r) settled.0 ∙ append-nil (replies_of (exchanges_in talk.lines ++ done_by talk.under_way)) ∙ ap (λ u. replies_of (exchanges_in talk.lines ++ done_by u)) settled.1 ∙ ap replies_of (append-nil (exchanges_in talk.lines))
 
     same_exchanges : (cell : ℕ) (few : cell < rules.cells) → exchanges_with cell (exchanges_in (client_at client low).2.talk.lines) ≡ exchanges_with client (cell_at cell few).2.is.history
     same_exchanges cell few =
@@ -430,7 +431,7 @@ module _ {A Q P C W L : Type 0} (rules : Rules Q P C) (l : LinkWords L) (Begins 
 
 -- the same where cells may begin with more
 module _ {Q P C W L : Type 0} (rules : Rules Q P C) (l : LinkWords L) (Begins Others : ℕ → C → Type 0) (more : (cell : ℕ) (value : C) → Begins cell value → Others cell value) where
-  pub served_from : (clients : ℕ) (parts : List (Part C W L l)) → HasServedFrom rules l Begins clients parts → HasServedFrom rules l Others clients parts
+  pub served_from : (clients : ℕ) (parts : List (Part C W L Q P l)) → HasServedFrom rules l Begins clients parts → HasServedFrom rules l Others clients parts
   served_from clients parts served = record {
     many = served.many;
     desk = served.desk;
@@ -445,9 +446,9 @@ module _ {Q P C W L : Type 0} (rules : Rules Q P C) (l : LinkWords L) (Begins Ot
   }
 
 -- what is left of a run that halted
-module _ {A Q P C W L : Type 0} (rules : Rules Q P C) (l : LinkWords L) (Begins : ℕ → C → Type 0) (a : ActorWords A (Part C W L l) (Message W L Q P)) (clients colours : ℕ) (actor : A) (parts : List (Option (Part C W L l)))
+module _ {A Q P C W L : Type 0} (rules : Rules Q P C) (l : LinkWords L) (Begins : ℕ → C → Type 0) (a : ActorWords A (Part C W L Q P l) (Message W L Q P)) (clients colours : ℕ) (actor : A) (parts : List (Option (Part C W L Q P l)))
     (many : colours ≡ rules.cells + clients + 1)
-    (keeps : (c : Colour) (received : List (Message W L Q P)) (sent : List (Colour × Message W L Q P)) (part : Part C W L l) → a.kept actor c received sent part → KeepsPart rules l Begins c received sent part) where
+    (keeps : (c : Colour) (received : List (Message W L Q P)) (sent : List (Colour × Message W L Q P)) (part : Part C W L Q P l) → a.kept actor c received sent part → KeepsPart rules l Begins c received sent part) where
   pub has_halted : AreLeft a actor colours parts → HasHalted rules l Begins clients parts
   has_halted left = record {
     many = elim left.many [

@@ -10,14 +10,15 @@ use Rattle.mely_net.specs.Cutting.{AreFrames, IsSteady, cut_within}
 use Rattle.mely_net.specs.declared.cut.Cut.TheVariants.{More}
 use Rattle.mely_net.specs.Lines.{IsAll, IsRefused, Line, shown_of, shown_to_fault}
 use Rattle.mely_net.specs.Rules.{Rules}
+use Rattle.mely_net.specs.Several.{SeveralState}
 use Rattle.mely_net.specs.Talks.{ClientView, IsAnswered, IsFresh, IsKept, IsKnown, IsTalk, IsTold, Keeps, Request, frame_of}
 use Rattle.mely_net.proofs.FrameLemmas.{frames_more}
 
 -- a connection of which nothing new is asked
-pub keeps_same : {Q P C : Type 0} (rules : Rules Q P C) (before after : ClientView) → ((asks : List (ℕ × Q)) (replies : List (ℕ × P)) → IsTalk rules asks replies before → IsTalk rules asks replies after) → Keeps rules [] before after
+pub keeps_same : {Q P C : Type 0} (rules : Rules Q P C) (before after : ClientView Q P) → ((asks : List (ℕ × Q)) (replies : List (ℕ × P)) → IsTalk rules asks replies before → IsTalk rules asks replies after) → Keeps rules [] before after
 keeps_same rules before after stays = λ asks replies talk. subst (λ l. IsTalk rules l replies after) (sym (append-nil asks)) (stays asks replies talk)
 
-pub same_so : {Q P C : Type 0} (rules : Rules Q P C) (before after : ClientView) → Keeps rules [] before after → (asks : List (ℕ × Q)) (replies : List (ℕ × P)) → IsTalk rules asks replies before → IsTalk rules asks replies after
+pub same_so : {Q P C : Type 0} (rules : Rules Q P C) (before after : ClientView Q P) → Keeps rules [] before after → (asks : List (ℕ × Q)) (replies : List (ℕ × P)) → IsTalk rules asks replies before → IsTalk rules asks replies after
 same_so rules before after keeps asks replies talk = subst (λ l. IsTalk rules l replies after) (append-nil asks) (keeps asks replies talk)
 
 pub not_both : {A : Type 0} (b : Bool) → b ≡ true → b ≡ false → A
@@ -33,7 +34,7 @@ failure_all rules (Some ends.Fault) rest unwritten fails = tt
 failure_all rules (Some ends.Memory) rest unwritten fails = tt
 failure_all rules (Some ends.Astray) rest unwritten fails = tt
 
-pub failure_answered : {Q : Type 0} (end : Option End) (under_way : Option (Request Q)) → IsFailure end → IsAnswered end under_way
+pub failure_answered : {Q P : Type 0} (end : Option End) (under_way : Option (Request Q P)) → IsFailure end → IsAnswered end under_way
 failure_answered None under_way fails = absurd fails
 failure_answered (Some ends.Left) under_way fails = absurd fails
 failure_answered (Some ends.Done) under_way fails = absurd fails
@@ -42,15 +43,15 @@ failure_answered (Some ends.Memory) under_way fails = tt
 failure_answered (Some ends.Astray) under_way fails = tt
 
 -- where no cell is asked, no request is under way
-pub none_under_way : {Q P : Type 0} (astray : List (ℕ × P)) (under_way : Option (Request Q)) (asked : Option ℕ) → astray ≡ [] → IsKnown astray under_way asked → asked ≡ None → under_way ≡ None
-none_under_way [] None asked none known idle = refl
-none_under_way [] (Some one) asked none known idle = absurd (let never : ⊥ = cc (known, idle) in never)
-none_under_way (reply ∷ astray) under_way asked none known idle = absurd (let never : ⊥ = cc none in never)
+pub none_under_way : {Q P : Type 0} (astray : List (ℕ × P)) (under_way : Option (Request Q P)) (asked : Option ℕ) (several : Option (SeveralState Q P)) → astray ≡ [] → IsKnown astray under_way asked several → asked ≡ None → (under_way ≡ None) × (several ≡ None)
+none_under_way [] None asked several none known idle = (refl, known.1)
+none_under_way [] (Some one) asked several none known idle = absurd (let is = known.0 in let never : ⊥ = cc (is, idle) in never)
+none_under_way (reply ∷ astray) under_way asked several none known idle = absurd (let never : ⊥ = cc none in never)
 
-module _ {Q P : Type 0} (lines : List (Line Q P)) (under_way : Option (Request Q)) (refused : Option P) (astray : List (ℕ × P)) (before after : ClientView) (same : IsSame before after) (come : before.has_come ≡ true) (kept : IsKept lines under_way refused astray before) where
+module _ {Q P : Type 0} (lines : List (Line Q P)) (under_way : Option (Request Q P)) (refused : Option P) (astray : List (ℕ × P)) (before after : ClientView Q P) (same : IsSame before after) (come : before.has_come ≡ true) (kept : IsKept lines under_way refused astray before) where
   pub kept_same : IsKept lines under_way refused astray after
   kept_same = record {
-    known = subst (IsKnown astray under_way) (sym same.asked) kept.known;
+    known = subst (IsKnown astray under_way after.asked) (sym same.several) (subst (λ a. IsKnown astray under_way a before.several) (sym same.asked) kept.known);
     none_astray = λ e. kept.none_astray (same.goes_on e);
     strays = λ e. kept.strays (same.strays e);
     goes_on = λ e. kept.goes_on (sym same.is_last ∙ e);
@@ -79,7 +80,7 @@ module _ {Q P C : Type 0} (rules : Rules Q P C) where
       })
 
   -- where bytes were written
-  pub writes_keep : (before after : ClientView) → before.has_come ≡ true → before.end ≡ None → Writes before after → Keeps rules [] before after
+  pub writes_keep : (before after : ClientView Q P) → before.has_come ≡ true → before.end ≡ None → Writes before after → Keeps rules [] before after
   writes_keep before after come goes writes = keeps_same rules before after (λ asks replies talk.
       let unwritten_is = talk.carried.outbox_is goes ∙ writes.all in
       record {
@@ -110,15 +111,15 @@ module _ {Q P C : Type 0} (rules : Rules Q P C) where
       not_left (inl is) left = cc (is, goes, left)
       not_left (inr fails) left = subst IsFailure left fails
 
-      answered_of : (under_way : Option (Request Q)) → (after.end ≡ before.end) ⊎ IsFailure after.end → IsAnswered after.end under_way
+      answered_of : (under_way : Option (Request Q P)) → (after.end ≡ before.end) ⊎ IsFailure after.end → IsAnswered after.end under_way
       answered_of under_way (inl is) = subst (λ e. IsAnswered e under_way) (sym (is ∙ goes)) tt
       answered_of under_way (inr fails) = failure_answered after.end under_way fails
 
   -- where bytes were read, with nothing on its way and no cell to reply
-  pub reads_keep : IsSteady rules.cut → (before after : ClientView) → before.has_come ≡ true → before.end ≡ None → before.asked ≡ None → before.is_last ≡ false → before.outbox ≡ [] → cut_within rules.cut rules.longest before.inbox ≡ More → Reads before after → Keeps rules [] before after
+  pub reads_keep : IsSteady rules.cut → (before after : ClientView Q P) → before.has_come ≡ true → before.end ≡ None → before.asked ≡ None → before.is_last ≡ false → before.outbox ≡ [] → cut_within rules.cut rules.longest before.inbox ≡ More → Reads before after → Keeps rules [] before after
   reads_keep steady before after come goes idle not_last nothing no_frame reads = keeps_same rules before after (λ asks replies talk.
       let unwritten_is = talk.carried.outbox_is goes in
-      let none = none_under_way talk.astray talk.under_way before.asked (talk.kept.none_astray goes) talk.kept.known idle in
+      let none = (none_under_way talk.astray talk.under_way before.asked before.several (talk.kept.none_astray goes) talk.kept.known idle).0 in
       record {
         lines = talk.lines;
         under_way = talk.under_way;
@@ -145,13 +146,13 @@ module _ {Q P C : Type 0} (rules : Rules Q P C) where
       all_of rest unwritten inbox none (inr (inr left)) = subst (λ e. IsAll rules e (rest ++ reads.came) unwritten) (sym left)
           (none, ap (cut_within rules.cut rules.longest) (ap (λ l. rest ++ l) (reads.all left).0 ∙ append-nil rest ∙ inbox) ∙ no_frame)
 
-      answered_of : (under_way : Option (Request Q)) → under_way ≡ None → (after.end ≡ before.end) ⊎ (IsFailure after.end ⊎ (after.end ≡ Some ends.Left)) → IsAnswered after.end under_way
+      answered_of : (under_way : Option (Request Q P)) → under_way ≡ None → (after.end ≡ before.end) ⊎ (IsFailure after.end ⊎ (after.end ≡ Some ends.Left)) → IsAnswered after.end under_way
       answered_of under_way none (inl is) = subst (λ e. IsAnswered e under_way) (sym (is ∙ goes)) tt
       answered_of under_way none (inr (inl fails)) = failure_answered after.end under_way fails
       answered_of under_way none (inr (inr left)) = subst (λ e. IsAnswered e under_way) (sym left) none
 
   -- an end, by what the connection had before
-  end_by : (client : ClientView) (end : End) (old : Option End) → client.end ≡ old → ((asks : List (ℕ × Q)) (replies : List (ℕ × P)) (talk : IsTalk rules asks replies client) → client.end ≡ None → IsAll rules (Some end) talk.rest talk.unwritten × IsAnswered (Some end) talk.under_way) → (Some end ≡ Some ends.Astray → ⊥) → (Some end ≡ Some ends.Left → ⊥) → (Some end ≡ Some ends.Done → client.is_last ≡ true)
+  end_by : (client : ClientView Q P) (end : End) (old : Option End) → client.end ≡ old → ((asks : List (ℕ × Q)) (replies : List (ℕ × P)) (talk : IsTalk rules asks replies client) → client.end ≡ None → IsAll rules (Some end) talk.rest talk.unwritten × IsAnswered (Some end) talk.under_way) → (Some end ≡ Some ends.Astray → ⊥) → (Some end ≡ Some ends.Left → ⊥) → (Some end ≡ Some ends.Done → client.is_last ≡ true)
       → (asks : List (ℕ × Q)) (replies : List (ℕ × P)) → IsTalk rules asks replies client → IsTalk rules asks replies (record client { end = ended_by end old })
   end_by client end None is well apart stays last asks replies talk =
       let so = well asks replies talk is in
@@ -187,14 +188,14 @@ module _ {Q P C : Type 0} (rules : Rules Q P C) where
   end_by client end (Some old) is well apart stays last asks replies talk = subst (λ (e : Option End). IsTalk rules asks replies (record client { end = e })) is talk
 
   -- a connection that fails
-  pub failure_keeps : (client : ClientView) (end : End) → IsFailure (Some end) → Keeps rules [] client (after_leaving end client)
+  pub failure_keeps : (client : ClientView Q P) (end : End) → IsFailure (Some end) → Keeps rules [] client (after_leaving end client)
   failure_keeps client end fails = keeps_same rules client (after_leaving end client) (end_by client end client.end refl (λ asks replies talk goes. (failure_all rules (Some end) talk.rest talk.unwritten fails, failure_answered (Some end) talk.under_way fails)) (λ e. subst IsFailure e fails) (λ e. subst IsFailure e fails) (λ e. absurd (subst IsFailure e fails)))
 
   -- one that has written all that it had to
-  pub done_keeps : (client : ClientView) → client.is_last ≡ true → (client.end ≡ None → client.outbox ≡ []) → Keeps rules [] client (after_leaving ends.Done client)
+  pub done_keeps : (client : ClientView Q P) → client.is_last ≡ true → (client.end ≡ None → client.outbox ≡ []) → Keeps rules [] client (after_leaving ends.Done client)
   done_keeps client last nothing = keeps_same rules client (after_leaving ends.Done client) (end_by client ends.Done client.end refl (λ asks replies talk goes. (talk.carried.outbox_is goes ∙ nothing goes, talk.kept.idle last)) (λ e. cc e) (λ e. cc e) (λ e. last))
 
-  pub finishes_keep : (before after : ClientView) → before.has_come ≡ true → before.end ≡ None → Finishes before after → Keeps rules [] before after
+  pub finishes_keep : (before after : ClientView Q P) → before.has_come ≡ true → before.end ≡ None → Finishes before after → Keeps rules [] before after
   finishes_keep before after come goes finishes = keeps_same rules before after (λ asks replies talk.
       let between = same_so rules before finishes.between (writes_keep before finishes.between come goes finishes.writes) asks replies talk in
       elim finishes.ends [
@@ -203,7 +204,7 @@ module _ {Q P C : Type 0} (rules : Rules Q P C) where
       ])
 
   -- a link that comes, of which nothing is taken or written
-  opened : (client : ClientView) (told : Option LinkContents) → IsInitialLink told → (come : Bool) (end : Option End) → client.has_come ≡ come → client.end ≡ end
+  opened : (client : ClientView Q P) (told : Option LinkContents) → IsInitialLink told → (come : Bool) (end : Option End) → client.has_come ≡ come → client.end ≡ end
       → (asks : List (ℕ × Q)) (replies : List (ℕ × P)) → IsTalk rules asks replies client → IsTalk rules asks replies (opened_by told client come end)
   opened client told initial true end come is asks replies talk = talk
   opened client told initial false (Some end) come is asks replies talk = talk
@@ -240,7 +241,7 @@ module _ {Q P C : Type 0} (rules : Rules Q P C) where
         };
       }
     where
-      begun : (lines : List (Line Q P)) (under_way : Option (Request Q)) (refused : Option P) → IsFresh lines under_way refused → (told : Option LinkContents) → IsInitialLink told
+      begun : (lines : List (Line Q P)) (under_way : Option (Request Q P)) (refused : Option P) → IsFresh lines under_way refused → (told : Option LinkContents) → IsInitialLink told
           → IfSome told (IsTold rules (map (λ line. line.frame) lines ++ frame_of under_way) [] (shown_of rules lines ++ shown_to_fault rules refused) [])
       begun lines under_way refused fresh None initial = tt
       begun [] None None fresh (Some told) initial = record { framed = initial.0; written = append-nil told.written ∙ initial.1 }
@@ -248,15 +249,15 @@ module _ {Q P C : Type 0} (rules : Rules Q P C) where
       begun [] (Some one) refused fresh (Some told) initial = absurd (let e = fresh.no_request in let never : ⊥ = cc e in never)
       begun (line ∷ lines) under_way refused fresh (Some told) initial = absurd (let e = fresh.no_lines in let never : ⊥ = cc e in never)
 
-  pub opened_keeps : (client : ClientView) (told : Option LinkContents) → IsInitialLink told → Keeps rules [] client (after_opening told client)
+  pub opened_keeps : (client : ClientView Q P) (told : Option LinkContents) → IsInitialLink told → Keeps rules [] client (after_opening told client)
   opened_keeps client told initial = keeps_same rules client (after_opening told client) (opened client told initial client.has_come client.end refl refl)
 
   -- one after another
-  pub keeps_both : (new : List (ℕ × Q)) (before between after : ClientView) → Keeps rules [] before between → Keeps rules new between after → Keeps rules new before after
+  pub keeps_both : (new : List (ℕ × Q)) (before between after : ClientView Q P) → Keeps rules [] before between → Keeps rules new between after → Keeps rules new before after
   keeps_both new before between after one two = λ asks replies talk. two asks replies (same_so rules before between one asks replies talk)
 
-  pub keeps_none : (client : ClientView) → Keeps rules [] client client
+  pub keeps_none : (client : ClientView Q P) → Keeps rules [] client client
   keeps_none client = keeps_same rules client client (λ asks replies talk. talk)
 
-  pub keeps_nothing : (new : List (ℕ × Q)) (before after : ClientView) → new ≡ [] → Keeps rules [] before after → Keeps rules new before after
+  pub keeps_nothing : (new : List (ℕ × Q)) (before after : ClientView Q P) → new ≡ [] → Keeps rules [] before after → Keeps rules new before after
   keeps_nothing new before after none keeps = subst (λ l. Keeps rules l before after) (sym none) keeps

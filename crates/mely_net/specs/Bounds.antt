@@ -21,7 +21,7 @@ pub record Mail (W L Q P : Type 0) : Type 0 where
 module _ {Q P C W L : Type 0} (rules : Rules Q P C) (l : LinkWords L) (client cell : ℕ) where
   -- a connection and a cell at some moment of a run: each is what its mail made of it, and the
   -- connection was replied no more by the cell than the cell has sent to it
-  pub record AreAt (of_client of_cell : Mail W L Q P) (value : Client L l) (kept : C)
+  pub record AreAt (of_client of_cell : Mail W L Q P) (value : Client L Q P l) (kept : C)
       : Type 0 where
     pub connection : IsConnection rules l (record { 0 = client + rules.cells + 1 })
         of_client.received of_client.sent value

@@ -1,9 +1,12 @@
 pub mod Cutting
 pub mod Rules
+pub mod Several
+pub mod Nexts
 pub mod Exchanges
 pub mod Lines
 pub mod Talks
 pub mod Clients
+pub mod Turning
 pub mod Messages
 pub mod Parts
 pub mod Served

@@ -8,30 +8,30 @@ use Rattle.mely_net.specs.Rules.{Rules}
 use Rattle.mely_net.specs.Served.{HasServedFrom}
 
 -- the value of a cell
-abbrev pub cell_in : {C W L : Type 0} {l : LinkWords L} → Part C W L l → Option C
+abbrev pub cell_in : {C W L Q P : Type 0} {l : LinkWords L} → Part C W L Q P l → Option C
 cell_in (part.Desk desk) = None
 cell_in (part.Cell value) = Some value
 cell_in (part.Client client) = None
 
 -- the values of the cells, in order
-abbrev pub cells_in : {C W L : Type 0} {l : LinkWords L} → List (Part C W L l) → List C
+abbrev pub cells_in : {C W L Q P : Type 0} {l : LinkWords L} → List (Part C W L Q P l) → List C
 cells_in parts = filter_map cell_in parts
 
 -- a run that came to its end: how many connections it had, and the parts that it left
-pub record Run (C W L : Type 0) (l : LinkWords L) : Type 0 where
+pub record Run (C W L Q P : Type 0) (l : LinkWords L) : Type 0 where
   pub clients : ℕ
-  pub parts : List (Part C W L l)
+  pub parts : List (Part C W L Q P l)
 
 module _ {Q P C W L : Type 0} (rules : Rules Q P C) (l : LinkWords L) where
   -- Each run begins with the cells that the one before it left, and the first with these; the last
   -- one leaves those.
-  abbrev pub HaveFollowed : List C → List (Run C W L l) → List C → Type 0
+  abbrev pub HaveFollowed : List C → List (Run C W L Q P l) → List C → Type 0
   HaveFollowed cells [] last = last ≡ cells
   HaveFollowed cells (run ∷ runs) last = HasServedFrom rules l (IsAt cells) run.clients run.parts
       × HaveFollowed (cells_in run.parts) runs last
 
   -- the exchanges of a cell along all runs, those of one run behind those of the one before it
-  abbrev pub history_along : (cell : ℕ) (cells : List C) (runs : List (Run C W L l))
+  abbrev pub history_along : (cell : ℕ) (cells : List C) (runs : List (Run C W L Q P l))
       (last : List C) → HaveFollowed cells runs last → List (Exchange Q P)
   history_along cell cells [] last followed = []
   history_along cell cells (run ∷ runs) last followed = followed.0.histories cell
@@ -39,7 +39,7 @@ module _ {Q P C W L : Type 0} (rules : Rules Q P C) (l : LinkWords L) where
 
   -- along them the cell goes step by step from the value that the first run began with to the one
   -- that the last run left
-  pub record HasOneHistory (cell : ℕ) (cells : List C) (runs : List (Run C W L l))
+  pub record HasOneHistory (cell : ℕ) (cells : List C) (runs : List (Run C W L Q P l))
       (last : List C) (followed : HaveFollowed cells runs last) : Type 0 where
     pub first : C
     pub begins : IsAt cells cell first

@@ -32,7 +32,7 @@ impl<S: Service + Drop, W: World + Drop> Actor for Serving<S, W> {
     ghost use Rattle.mely_net.specs.Exchanges.{IsAt};
     ghost use Rattle.mely_net.specs.Parts.{KeepsPart};
 
-    type Value = Part<S::Cell, W, W::Link>;
+    type Value = Part<S::Cell, W, W::Link, S::Request, S::Reply>;
 
     type Message = Message<W, W::Link, S::Request, S::Reply>;
 
@@ -65,7 +65,7 @@ impl<S: Service + Drop, W: World + Drop> Actor for Serving<S, W> {
     fn on(
         &self,
         place: Place,
-        part: &mut Part<S::Cell, W, W::Link>,
+        part: &mut Part<S::Cell, W, W::Link, S::Request, S::Reply>,
         message: Message<W, W::Link, S::Request, S::Reply>,
         sends: &mut Sends<Message<W, W::Link, S::Request, S::Reply>>,
     ) -> Result<(), Memory> {

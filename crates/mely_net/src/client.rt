@@ -6,6 +6,7 @@ use crate::asked::Asked;
 use crate::cut::Cut;
 use crate::end::End;
 use crate::service::Service;
+use crate::several::{Next, Several};
 use crate::window::Window;
 use std::alloc::Global;
 use sws_link::{Link, LinkRead, LinkWrite};
@@ -26,9 +27,10 @@ pub(crate) enum Turn<Q> {
     Rests,
 }
 
-/// A connection: its link, what has come from it and what is on its way to it.
+/// A connection: its link, what has come from it and what is on its way to it. Cells are asked `Q`
+/// and reply `P`.
 #[derive(Drop)]
-pub struct Client<L: Link> {
+pub struct Client<L: Link, Q, P> {
     /// Nothing before it has come.
     link: Option<L>,
     inbox: Window,
@@ -36,6 +38,9 @@ pub struct Client<L: Link> {
 
     /// The cell that is to reply.
     asked: Option<u16>,
+
+    /// The request that it was asked for, where that asks several.
+    several: Option<Several<Q, P>>,
 
     /// Whether it ends once all is written.
     is_last: bool,
@@ -53,16 +58,17 @@ const FULL: usize = 65_536;
 /// How many steps a connection makes in one turn.
 const STEPS: u8 = 64;
 
-impl<L: Link + Drop> Client<L> {
+impl<L: Link + Drop, Q: Drop, P: Drop> Client<L, Q, P> {
     ghost use Rattle.std.specs.Prelude.{◌≤◌, ◌<◌, ◌∷◌, [], ℕ, IfSome, Some, IsTrue, is_some, true, length};
     ghost use Rattle.std.specs.List.{AllByRecursion};
     ghost use Rattle.mely_net.specs.declared.cut.Cut.TheVariants as cut;
     ghost use Rattle.mely_net.specs.Clients.{Finishes, Reads, Says, Writes, after_leaving, after_opening, asks_of, asks_of_step, shown_client, to_come};
+    ghost use Rattle.mely_net.specs.Turning.{Answers, Begins, TurnsTo};
     ghost use Rattle.mely_net.specs.Cutting.{IsWithin, cut_within};
     ghost use Rattle.mely_net.specs.Talks.{Hears, Keeps};
 
     /// A connection that is still to come. It takes no memory.
-    pub(crate) fn new(alloc: Global) -> Client<L>
+    pub(crate) fn new(alloc: Global) -> Client<L, Q, P>
         ensures { shown_client result ≡ to_come }
     {
         Client {
@@ -70,6 +76,7 @@ impl<L: Link + Drop> Client<L> {
             inbox: Window::new(alloc),
             outbox: Window::new(alloc),
             asked: None,
+            several: None,
             is_last: false,
             end: None,
         }
@@ -111,7 +118,11 @@ impl<L: Link + Drop> Client<L> {
     }
 
     /// It goes on until it asks a cell, waits, rests, or has made so many steps.
-    pub(crate) fn go_on<S: Service>(&mut self, service: &S, alloc: Global) -> Turn<S::Request>
+    pub(crate) fn go_on<S: Service<Request = Q, Reply = P>>(
+        &mut self,
+        service: &S,
+        alloc: Global,
+    ) -> Turn<Q>
         ensures keeps { Keeps (S.rules_of service.now) (asks_of result) (shown_client self.old)
             (shown_client self.new) }
         ensures there { AllByRecursion (λ ask. ask.0 < (S.rules_of service.now).cells)
@@ -125,23 +136,86 @@ impl<L: Link + Drop> Client<L> {
         Turn::GoesOn
     }
 
-    /// A cell has replied.
-    pub(crate) fn hear<S: Service>(&mut self, service: &S, cell: u16, reply: &S::Reply)
-        ensures { Hears (S.rules_of service.now) (cell, reply.now) (shown_client self.old)
-            (shown_client self.new) }
+    /// A cell has replied. What the connection does next, where it doesn't go on: it asks the next
+    /// cell, if its request asks several.
+    pub(crate) fn hear<S: Service<Request = Q, Reply = P>>(
+        &mut self,
+        service: &S,
+        cell: u16,
+        reply: P,
+    ) -> Option<Turn<Q>>
+        ensures hears { Hears (S.rules_of service.now) (cell, reply) (asks_of_step result)
+            (shown_client self.old) (shown_client self.new) }
+        ensures there { AllByRecursion (λ ask. ask.0 < (S.rules_of service.now).cells)
+            (asks_of_step result) }
     {
         if self.asked == Some(cell) {
             self.asked = None;
-            self.say(service, reply);
+            self.hear_asked(service, reply)
         } else {
             self.asked = None;
             self.leave(End::Astray);
+            None
+        }
+    }
+
+    /// The cell that was asked has replied.
+    fn hear_asked<S: Service<Request = Q, Reply = P>>(
+        &mut self,
+        service: &S,
+        reply: P,
+    ) -> Option<Turn<Q>>
+        ensures answers { Answers (S.rules_of service.now) reply (asks_of_step result)
+            (shown_client self.old) (shown_client self.new) }
+        ensures there { AllByRecursion (λ ask. ask.0 < (S.rules_of service.now).cells)
+            (asks_of_step result) }
+    {
+        match self.several.take() {
+            Some(several) => self.turn_to(service, several.hear(reply)),
+            None => {
+                self.say(service, &reply, &[]);
+                None
+            }
+        }
+    }
+
+    /// What is done next for a request that asks several cells: one of them is asked, or the reply
+    /// is said with its parts.
+    fn turn_to<S: Service<Request = Q, Reply = P>>(
+        &mut self,
+        service: &S,
+        next: Next<Q, P>,
+    ) -> Option<Turn<Q>>
+        ensures turns { TurnsTo (S.rules_of service.now) next (asks_of_step result)
+            (shown_client self.old) (shown_client self.new) }
+        ensures there { AllByRecursion (λ ask. ask.0 < (S.rules_of service.now).cells)
+            (asks_of_step result) }
+    {
+        match next {
+            Next::Asks(cell, request, several) => {
+                // no service asks a cell that there isn't
+                if cell >= service.cells() {
+                    self.leave(End::Astray);
+                    return None;
+                }
+                self.asked = Some(cell);
+                self.several = Some(several);
+                Some(Turn::Asks(cell, request))
+            }
+            Next::Whole(reply, parts) => {
+                self.say(service, &reply, parts.as_slice());
+                None
+            }
         }
     }
 
     /// One step: a frame is answered, or bytes are read. Where there is nothing to do, what the
     /// connection does next.
-    fn step<S: Service>(&mut self, service: &S, alloc: Global) -> Option<Turn<S::Request>>
+    fn step<S: Service<Request = Q, Reply = P>>(
+        &mut self,
+        service: &S,
+        alloc: Global,
+    ) -> Option<Turn<Q>>
         ensures keeps { Keeps (S.rules_of service.now) (asks_of_step result)
             (shown_client self.old) (shown_client self.new) }
         ensures there { AllByRecursion (λ ask. ask.0 < (S.rules_of service.now).cells)
@@ -184,12 +258,12 @@ impl<L: Link + Drop> Client<L> {
     }
 
     /// The first frame, which has so many bytes, is answered, or a cell is asked.
-    fn answer<S: Service>(
+    fn answer<S: Service<Request = Q, Reply = P>>(
         &mut self,
         service: &S,
         alloc: Global,
         size: usize,
-    ) -> Option<Turn<S::Request>>
+    ) -> Option<Turn<Q>>
         requires come { is_some self.old.link ≡ true }
         requires goes_on { self.old.end ≡ None }
         requires idle { self.old.asked ≡ None }
@@ -212,20 +286,44 @@ impl<L: Link + Drop> Client<L> {
                 self.asked = Some(cell);
                 Some(Turn::Asks(cell, request))
             }
+            Asked::Each(asks, reply) => self.begin(service, alloc, asks, reply),
             Asked::Here(reply) => {
-                self.say(service, &reply);
+                self.say(service, &reply, &[]);
                 None
             }
             Asked::Last(reply) => {
                 self.is_last = true;
-                self.say(service, &reply);
+                self.say(service, &reply, &[]);
                 None
             }
         }
     }
 
+    /// The first of these cells is asked for a part of this reply. Where there is none, the reply
+    /// is said.
+    fn begin<S: Service<Request = Q, Reply = P>>(
+        &mut self,
+        service: &S,
+        alloc: Global,
+        asks: Vec<(u16, Q)>,
+        reply: P,
+    ) -> Option<Turn<Q>>
+        ensures begins { Begins (S.rules_of service.now) asks.items reply (asks_of_step result)
+            (shown_client self.old) (shown_client self.new) }
+        ensures there { AllByRecursion (λ ask. ask.0 < (S.rules_of service.now).cells)
+            (asks_of_step result) }
+    {
+        match Several::begin(alloc, asks, reply) {
+            Ok(next) => self.turn_to(service, next),
+            Err(_) => {
+                self.leave(End::Memory);
+                Some(Turn::Rests)
+            }
+        }
+    }
+
     /// What has come begins with no frame.
-    fn refuse<S: Service>(&mut self, service: &S, alloc: Global)
+    fn refuse<S: Service<Request = Q, Reply = P>>(&mut self, service: &S, alloc: Global)
         requires come { is_some self.old.link ≡ true }
         requires goes_on { self.old.end ≡ None }
         requires idle { self.old.asked ≡ None }
@@ -238,24 +336,24 @@ impl<L: Link + Drop> Client<L> {
         match service.refuse(alloc) {
             Ok(reply) => {
                 self.is_last = true;
-                self.say(service, &reply);
+                self.say(service, &reply, &[]);
             }
             Err(_) => self.leave(End::Memory),
         }
     }
 
-    /// A reply is on its way, unless the connection has ended.
-    fn say<S: Service>(&mut self, service: &S, reply: &S::Reply)
-        ensures { Says ((S.rules_of service.now).shown reply.now) (shown_client self.old)
-            (shown_client self.new) }
+    /// A reply is on its way, with its parts where it has any, unless the connection has ended.
+    fn say<S: Service<Request = Q, Reply = P>>(&mut self, service: &S, reply: &P, parts: &[P])
+        ensures { Says ((S.rules_of service.now).shown reply.now parts.now)
+            (shown_client self.old) (shown_client self.new) }
     {
-        if self.end.is_none() && self.outbox.add_reply(service, reply).is_err() {
+        if self.end.is_none() && self.outbox.add_reply(service, reply, parts).is_err() {
             self.leave(End::Memory);
         }
     }
 
     /// All is written before anything else is done, and where it was the last, the connection ends.
-    fn finish<Q>(&mut self) -> Option<Turn<Q>>
+    fn finish(&mut self) -> Option<Turn<Q>>
         requires { self.old.end ≡ None }
         ensures finishes { Finishes (shown_client self.old) (shown_client self.new) }
         ensures none { asks_of_step result ≡ [] }
@@ -270,7 +368,7 @@ impl<L: Link + Drop> Client<L> {
     }
 
     /// What a connection does that can't write: it waits for its link, unless it has ended.
-    fn pause<Q>(&self) -> Turn<Q>
+    fn pause(&self) -> Turn<Q>
         ensures { asks_of result ≡ [] }
     {
         if self.end.is_some() {
@@ -309,7 +407,7 @@ impl<L: Link + Drop> Client<L> {
     }
 
     /// Reads what has come. Where nothing has, what the connection does next.
-    fn read<Q>(&mut self) -> Option<Turn<Q>>
+    fn read(&mut self) -> Option<Turn<Q>>
         requires { self.old.end ≡ None }
         ensures reads { Reads (shown_client self.old) (shown_client self.new) }
         ensures none { asks_of_step result ≡ [] }

@@ -7,7 +7,10 @@ use std::alloc::Global;
 use sws_link::Link;
 
 /// What a part has goes behind others, which have room for it, where it is a cell.
-fn add_cell<C: Drop, W: Drop, L: Link + Drop>(cells: &mut Vec<C>, part: Part<C, W, L>)
+fn add_cell<C: Drop, W: Drop, L: Link + Drop, Q: Drop, P: Drop>(
+    cells: &mut Vec<C>,
+    part: Part<C, W, L, Q, P>,
+)
     requires { vec_len cells.old < vec_capacity cells.old }
     ensures items { cells.new.items ≡ cells.old.items ++ cells_in (part ∷ []) }
     ensures capacity { vec_capacity cells.new ≡ vec_capacity cells.old }
@@ -23,10 +26,10 @@ fn add_cell<C: Drop, W: Drop, L: Link + Drop>(cells: &mut Vec<C>, part: Part<C, 
 /// # Errors
 ///
 /// There was no memory: the parts are handed back.
-pub fn take_cells<C: Drop, W: Drop, L: Link + Drop>(
+pub fn take_cells<C: Drop, W: Drop, L: Link + Drop, Q: Drop, P: Drop>(
     alloc: Global,
-    parts: Vec<Part<C, W, L>>,
-) -> Result<Vec<C>, Vec<Part<C, W, L>>>
+    parts: Vec<Part<C, W, L, Q, P>>,
+) -> Result<Vec<C>, Vec<Part<C, W, L, Q, P>>>
     ensures cells { IfOk result (λ cells. cells.items ≡ cells_in parts.items) }
     ensures back { IfErr result (λ back. back ≡ parts) }
 {

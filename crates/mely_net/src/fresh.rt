@@ -34,9 +34,9 @@ pub(crate) fn begin_cells<S: Service>(alloc: Global, service: &S) -> Result<Vec<
 /// # Errors
 ///
 /// There was no memory.
-fn add_clients<C: Drop, W: Drop, L: Link + Drop>(
+fn add_clients<C: Drop, W: Drop, L: Link + Drop, Q: Drop, P: Drop>(
     alloc: Global,
-    parts: &mut Vec<Part<C, W, L>>,
+    parts: &mut Vec<Part<C, W, L, Q, P>>,
     count: u16,
 ) -> Result<(), Memory>
     ensures many { OnOk result (length parts.new.items ≡ length parts.old.items + count) }
@@ -54,11 +54,11 @@ fn add_clients<C: Drop, W: Drop, L: Link + Drop>(
 /// # Errors
 ///
 /// There was no memory: the cells are dropped.
-pub(crate) fn make_parts<C: Drop, W: Drop, L: Link + Drop>(
+pub(crate) fn make_parts<C: Drop, W: Drop, L: Link + Drop, Q: Drop, P: Drop>(
     alloc: Global,
     layout: &Layout,
     cells: Vec<C>,
-) -> Result<Vec<Part<C, W, L>>, Memory>
+) -> Result<Vec<Part<C, W, L, Q, P>>, Memory>
     requires { length cells.items ≡ layout.now.cells }
     ensures many { IfOk result (λ parts. length parts.items
         ≡ layout.now.cells + layout.now.clients + 1) }

@@ -14,7 +14,7 @@ use sws_link::{Link, World};
 pub fn one_request_of_a_connection_waits<S: Service, W: World + Drop>()
     ensures { (service : S) (client cell : ℕ)
         (of_client of_cell : Mail W W.Link S.Request S.Reply)
-        (value : Client W.Link W.Link.Link) (kept : S.Cell)
+        (value : Client W.Link S.Request S.Reply W.Link.Link) (kept : S.Cell)
         → AreAt (S.rules_of service) W.Link.Link client cell of_client of_cell value kept
         → OneWaits (S.rules_of service) W.Link.Link client cell of_client of_cell }
 {}
@@ -24,7 +24,7 @@ pub fn one_request_of_a_connection_waits<S: Service, W: World + Drop>()
 /// the first run began with to the one that the last run left.
 pub fn a_cell_has_one_history_along_all_runs<S: Service, W: World + Drop>()
     ensures { (service : S) (cells last : List S.Cell)
-        (runs : List (Run S.Cell W W.Link W.Link.Link)) (cell : ℕ)
+        (runs : List (Run S.Cell W W.Link S.Request S.Reply W.Link.Link)) (cell : ℕ)
         → length cells ≡ (S.rules_of service).cells → cell < (S.rules_of service).cells
         → (followed : HaveFollowed (S.rules_of service) W.Link.Link cells runs last)
         → HasOneHistory (S.rules_of service) W.Link.Link cell cells runs last followed }

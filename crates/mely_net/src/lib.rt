@@ -4,8 +4,9 @@
 //! A [`Service`] cuts the bytes of a connection into frames. What a frame asks is answered by the
 //! connection itself ([`Asked::Here`], [`Asked::Last`]) or by one of the service's *cells*, each of
 //! which has a value of its own and answers one request after another ([`Asked::At`]). So keys that
-//! are spread over cells are served on all cores at once, and a key is never at two places. So
-//! `example_counters` does with a cell that has the counters of some keys:
+//! are spread over cells are served on all cores at once, and a key is never at two places. A frame
+//! may also ask several cells, one after another, whose replies are the parts of one
+//! ([`Asked::Each`]). So `example_counters` does with a cell that has the counters of some keys:
 //!
 //! ```text
 //! match request {
@@ -31,8 +32,10 @@
 //! what a run left. So one run may follow another: between them the cells are at hand, to be
 //! written to a file, or for a service that has changed.
 //!
-//! A connection has one request under way at most. It isn't read while a request is under way or an
-//! answer isn't written, so who doesn't take answers isn't heard either. Frames that came together
+//! A connection has one request under way at most, also where a frame asks several cells: the next one
+//! is asked once the one before it has replied. It isn't read while a request is under way or an
+//! answer isn't written, so who doesn't take answers isn't heard either. What was begun is asked to its
+//! end, even where the connection has ended meanwhile. Frames that came together
 //! are answered together. A frame of more than [`Service::longest`] bytes is a fault, as is what
 //! the service can't cut: it is answered once ([`Service::refuse`]), and the connection ends.
 //!
@@ -43,8 +46,8 @@
 //!
 //! - *Framed.* Over a link that tells what was taken and written, what was taken of a connection
 //!   begins with the frames of its lines, as the service cuts them; each line has what its frame
-//!   asks, and its reply; and what was written, and what isn't yet, are the bytes of these replies
-//!   in order. Where the connection has ended well, nothing is left unwritten. Then either its
+//!   asks, its reply, and where several cells were asked the parts of that, one for each; and what
+//!   was written, and what isn't yet, are the bytes of these replies with their parts, in order. Where the connection has ended well, nothing is left unwritten. Then either its
 //!   client has sent all that it sends, all of that was taken, and no frame of it is left; or the
 //!   connection was to end, by an answer of [`Asked::Last`] or the one to a fault.
 //! - *Sequential.* Each cell has one list of exchanges, a request with its reply, along which it
@@ -55,7 +58,8 @@
 //!   connection, are in order those of the cell with the connection, by the history of the cell. So
 //!   each request has one place in the history of its cell, those of one connection stand there in
 //!   the order in which they were sent, and what a connection is told is the reply of that place.
-//!   No request is left under way, and no reply goes astray.
+//!   Of a line that asks several cells that holds for each of its parts: each was asked once, in
+//!   order. No request is left under way, no line is left half asked, and no reply goes astray.
 //!
 //! Over runs that follow one another, each on the cells that the one before it left, a cell has one
 //! history too: its exchanges run after run are steps of the service, from the value with which the
@@ -73,7 +77,8 @@
 //!
 //! **Not promised**, since nothing tells it: what a socket brings or carries away; in which order
 //! the requests of different connections come to a cell; anything of the order of exchanges with
-//! different cells, so that a request which concerns several keys is no single step; that a run
+//! different cells, so that a frame which asks several is no single step: requests of other
+//! connections may come between its parts, and be seen by some of them alone; that a run
 //! ends, or how long an answer takes. Of a run that wants memory nothing is promised but the
 //! history of each cell that is handed back: requests that were under way are dropped, and a cell
 //! may have served one whose client wasn't told. Where there was no memory to begin, nothing is
@@ -96,6 +101,7 @@ mod part;
 mod running;
 mod service;
 mod serving;
+mod several;
 mod window;
 
 pub use asked::Asked;

@@ -4,9 +4,9 @@ use crate::client::Client;
 use crate::desk::Desk;
 use sws_link::Link;
 
-/// What a colour has: the desk, a cell, or a connection.
+/// What a colour has: the desk, a cell, or a connection, whose cells are asked `Q` and reply `P`.
 #[derive(Drop)]
-pub enum Part<C, W, L: Link> {
+pub enum Part<C, W, L: Link, Q, P> {
     /// Colour 0 asks the world.
     Desk(Desk<W>),
 
@@ -14,5 +14,5 @@ pub enum Part<C, W, L: Link> {
     Cell(C),
 
     /// Those behind them are the connections.
-    Client(Client<L>),
+    Client(Client<L, Q, P>),
 }

@@ -62,7 +62,7 @@ pub fn serve<R: Threads + Wait + Sync, S: Service + Drop + Sync, W: World + Drop
     workers: u16,
     service: S,
     world: W,
-) -> Result<Ended<Part<S::Cell, W, W::Link>>, Memory>
+) -> Result<Ended<Part<S::Cell, W, W::Link, S::Request, S::Reply>>, Memory>
 where
     S::Request: Send,
     S::Reply: Send,
@@ -97,7 +97,10 @@ pub fn serve_on<R: Threads + Wait + Sync, S: Service + Drop + Sync, W: World + D
     service: S,
     cells: Vec<S::Cell>,
     world: W,
-) -> Result<Ended<Part<S::Cell, W, W::Link>>, Halted<Part<S::Cell, W, W::Link>>>
+) -> Result<
+    Ended<Part<S::Cell, W, W::Link, S::Request, S::Reply>>,
+    Halted<Part<S::Cell, W, W::Link, S::Request, S::Reply>>,
+>
 where
     S::Request: Send,
     S::Reply: Send,

@@ -10,7 +10,7 @@ use mely_event::Memory;
 use std::alloc::Global;
 
 /// A service over connections: how their bytes are cut into frames, what a frame asks and of which
-/// cell, and what a cell does with a request.
+/// cell or cells, and what a cell does with a request.
 ///
 /// The cells share nothing: each has a value of its own, and answers one request after another.
 /// Contracts see a service as its [`Rules`](../specs/Rules.antt).
@@ -82,14 +82,21 @@ pub trait Service {
         requires { cell < (rules_of self.now).cells }
         ensures { IfOk result ((rules_of self.now).Serves cell value.old request value.new) };
 
-    /// Puts the bytes of a reply behind others.
+    /// Puts the bytes of a reply behind others. Where a request asked several cells
+    /// ([`Asked::Each`]) the reply is the one that its frame has, and its parts are what the cells
+    /// replied, in order; else there are no parts.
     ///
     /// # Errors
     ///
     /// There was no memory: the connection ends, and nothing of these bytes is written.
-    fn write(&self, reply: &Self::Reply, out: &mut Vec<u8>) -> Result<(), Memory>
+    fn write(
+        &self,
+        reply: &Self::Reply,
+        parts: &[Self::Reply],
+        out: &mut Vec<u8>,
+    ) -> Result<(), Memory>
         ensures { OnOk result (out.new.items
-            ≡ out.old.items ++ (rules_of self.now).shown reply.now) };
+            ≡ out.old.items ++ (rules_of self.now).shown reply.now parts.now) };
 
     /// Cuts stand.
     ghost steady: { (service : Self) → IsSteady (rules_of service).cut };

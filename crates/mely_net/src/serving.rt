@@ -1,12 +1,12 @@
 //! A service over a world, as actors.
-ghost use Rattle.std.specs.Prelude.{◌≡◌, ◌<◌, ◌+◌, ◌++◌, ◌∷◌, [], List, OnOk, IsTrue};
+ghost use Rattle.std.specs.Prelude.{◌≡◌, ◌<◌, ◌+◌, ◌++◌, ◌∷◌, [], List, OnOk, map};
 ghost use Rattle.std.specs.List.{AllByRecursion};
 ghost use Rattle.mely_event.specs.declared.colour.Colour.{Colour};
 ghost use Rattle.mely_actor.specs.Sending.{MaySend};
 ghost use Rattle.mely_net.specs.declared.message.Message.{Message};
-ghost use Rattle.mely_net.specs.Clients.{shown_client};
-ghost use Rattle.mely_net.specs.Messages.{IsClient, IsQuiet, IsSigned, MayGet, event_of};
-ghost use Rattle.mely_net.specs.Parts.{Gets, IsCell, IsConnection, Sends as ClientSends};
+ghost use Rattle.mely_net.specs.Clients.{asks_of, asks_of_step, shown_client};
+ghost use Rattle.mely_net.specs.Messages.{IsClient, IsQuiet, IsSigned, MayGet, event_of, requests_sent};
+ghost use Rattle.mely_net.specs.Parts.{Gets, IsCell, IsConnection, is_own};
 
 use crate::asking::{accept, poll, wait};
 use crate::client::{Client, Turn};
@@ -84,54 +84,84 @@ pub(crate) fn at_cell<S: Service, W: World + Drop>(
     Ok(())
 }
 
-/// A connection gets a message, but doesn't go on yet. Answers whether it was for a connection.
+/// Whether a message is for a connection.
+fn is_for_client<W, L, Q, P>(message: &Message<W, L, Q, P>) -> bool
+    ensures { result ≡ is_own message.now }
+{
+    match message {
+        Message::Open(_) | Message::Wake | Message::Leave | Message::Reply(_, _) => true,
+        Message::Poll(_) | Message::Accept(_) | Message::Wait(_) | Message::Ask(_, _) => false,
+    }
+}
+
+/// A connection gets a message. What it does next, where it doesn't go on.
 fn get<S: Service, W: World + Drop>(
     service: &S,
     layout: &Layout,
     colour: Colour,
-    client: &mut Client<W::Link>,
+    client: &mut Client<W::Link, S::Request, S::Reply>,
     message: Message<W, W::Link, S::Request, S::Reply>,
-) -> bool
+) -> Option<Turn<S::Request>>
     requires may_get { MayGet W.tells W.Link.tells W.Link.is_shut layout.now.cells
         layout.now.clients colour message }
-    ensures gets { Gets (S.rules_of service.now) message (shown_client client.old)
-        (shown_client client.new) }
-    ensures own { IsTrue result → IsClient layout.now.cells layout.now.clients colour }
+    ensures gets { Gets (S.rules_of service.now) message (asks_of_step result)
+        (shown_client client.old) (shown_client client.new) }
+    ensures there { AllByRecursion (λ ask. ask.0 < (S.rules_of service.now).cells)
+        (asks_of_step result) }
 {
     match message {
         Message::Open(link) => client.open(link),
         Message::Wake => {}
         Message::Leave => client.leave(End::Fault),
-        Message::Reply(cell, reply) => client.hear(service, cell, &reply),
+        Message::Reply(cell, reply) => return client.hear(service, cell, reply),
         Message::Poll(_) | Message::Accept(_) | Message::Wait(_) | Message::Ask(_, _) => {
-            return false;
+            return Some(Turn::Rests);
         }
     }
-    true
+    None
 }
 
-/// A connection goes on, and asks a cell, waits at the desk, or puts itself behind others.
-fn go<S: Service, W: World + Drop>(
+/// A connection gets a message, and goes on where it can: what it does next.
+fn act<S: Service, W: World + Drop>(
     service: &S,
     alloc: Global,
     layout: &Layout,
     colour: Colour,
-    client: &mut Client<W::Link>,
-    sends: &mut Sends<Message<W, W::Link, S::Request, S::Reply>>,
+    client: &mut Client<W::Link, S::Request, S::Reply>,
+    message: Message<W, W::Link, S::Request, S::Reply>,
+) -> Turn<S::Request>
+    requires may_get { MayGet W.tells W.Link.tells W.Link.is_shut layout.now.cells
+        layout.now.clients colour message }
+    ensures gets { Gets (S.rules_of service.now) message (asks_of result)
+        (shown_client client.old) (shown_client client.new) }
+    ensures there { AllByRecursion (λ ask. ask.0 < (S.rules_of service.now).cells)
+        (asks_of result) }
+{
+    match get::<S, W>(service, layout, colour, client, message) {
+        Some(turn) => turn,
+        None => client.go_on(service, alloc),
+    }
+}
+
+/// A connection asks a cell, waits at the desk, or puts itself behind others.
+fn send_turn<W: World + Drop, Q: Drop, P: Drop>(
+    layout: &Layout,
+    colour: Colour,
+    turn: Turn<Q>,
+    sends: &mut Sends<Message<W, W::Link, Q, P>>,
 )
-    requires cells { layout.now.cells ≡ (S.rules_of service.now).cells }
     requires empty { sends.old ≡ [] }
     requires own { IsClient layout.now.cells layout.now.clients colour }
+    requires there { AllByRecursion (λ ask. ask.0 < layout.now.cells) (asks_of turn) }
     ensures allowed { AllByRecursion
         (MaySend (layout.now.cells + layout.now.clients + 1) 9 event_of
         (MayGet W.tells W.Link.tells W.Link.is_shut layout.now.cells layout.now.clients))
         sends.new }
     ensures signed { AllByRecursion (λ send. IsSigned layout.now.cells colour send.1) sends.new }
-    ensures sends { ClientSends (S.rules_of service.now) (shown_client client.old)
-        (shown_client client.new) sends.new }
+    ensures sent { requests_sent sends.new ≡ map (λ ask. (ask.0 + 1, ask.1)) (asks_of turn) }
 {
     let own = colour.0 - layout.cells - 1;
-    match client.go_on(service, alloc) {
+    match turn {
         Turn::Asks(cell, request) => sends.send(layout.cell(cell), Message::Ask(own, request)),
         Turn::Waits => sends.send(DESK, Message::Wait(own)),
         Turn::GoesOn => sends.send(colour, Message::Wake),
@@ -145,7 +175,7 @@ pub(crate) fn at_client<S: Service, W: World + Drop>(
     alloc: Global,
     layout: &Layout,
     colour: Colour,
-    client: &mut Client<W::Link>,
+    client: &mut Client<W::Link, S::Request, S::Reply>,
     message: Message<W, W::Link, S::Request, S::Reply>,
     sends: &mut Sends<Message<W, W::Link, S::Request, S::Reply>>,
 )
@@ -164,7 +194,8 @@ pub(crate) fn at_client<S: Service, W: World + Drop>(
         → IsConnection (S.rules_of service.now) W.Link.Link colour (received ++ message ∷ [])
         (sent ++ sends.new) client.new }
 {
-    if get::<S, W>(service, layout, colour, client, message) {
-        go::<S, W>(service, alloc, layout, colour, client, sends);
+    if is_for_client(&message) {
+        let turn = act::<S, W>(service, alloc, layout, colour, client, message);
+        send_turn::<W, S::Request, S::Reply>(layout, colour, turn, sends);
     }
 }

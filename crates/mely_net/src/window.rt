@@ -74,7 +74,7 @@ impl Window {
         Ok(())
     }
 
-    /// Those of a reply come behind the others.
+    /// Those of a reply come behind the others, with its parts where it has any.
     ///
     /// # Errors
     ///
@@ -83,13 +83,15 @@ impl Window {
         &mut self,
         service: &S,
         reply: &S::Reply,
+        parts: &[S::Reply],
     ) -> Result<(), Memory>
-        ensures { OnOk result (self.new ≡ self.old ++ (S.rules_of service.now).shown reply.now) }
+        ensures { OnOk result (self.new
+            ≡ self.old ++ (S.rules_of service.now).shown reply.now parts.now) }
     {
         if self.from > 0 {
             self.close_up();
         }
-        let written = service.write(reply, &mut self.bytes);
+        let written = service.write(reply, parts, &mut self.bytes);
         if written.is_err() {
             self.bytes.clear();
             self.from = 0;

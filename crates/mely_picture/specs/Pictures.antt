@@ -77,7 +77,8 @@ whole_picture cores width count colours panels =
 abbrev pub legend_colours : Setup → List (List Entry) → List ℕ
 legend_colours setup histories = with_new [] (colours_from setup 0 histories)
 
--- the picture of a run: a legend, and a panel for each shard's history
+-- the picture of a run, as SVG (SVG 1.1, W3C): a legend, and a panel for each shard's history,
+-- entry by entry where it is short, and else in buckets
 abbrev pub picture : Setup → List (List Entry) → List ℕ
 picture setup histories =
     whole_picture (shape_of setup).cores (widest histories) (length histories)

@@ -154,6 +154,6 @@ target_of too_long = codes "-"
 abbrev pub answer_of : SiteState → Asked → Bool → Answer
 answer_of site asked last = record (response_to site asked last) { target = target_of asked }
 
--- no answer out of a site within its limits has more bytes: 2^33
+-- no answer out of a site within its limits has more bytes: 2^34
 abbrev pub text_limit : ℕ
-text_limit = 8589934592
+text_limit = 17179869184

@@ -34,7 +34,8 @@ answers zero site bytes = []
 answers (suc more) site bytes =
     answers_at site bytes (more == 0) (cut_of bytes) (λ len. answers more site (drop len bytes))
 
--- the answers to all bytes of a connection
+-- the answers to all bytes of a connection: of as many as count, head after head is cut and
+-- answered until an answer closes, no head is left, or as many were answered as are
 unfoldable pub answers_to : SiteState → List ℕ → List Answer
 answers_to site bytes = answers (answer_limit site) site (take (input_limit site) bytes)
 

@@ -2,7 +2,8 @@
 ghost use Rattle.std.specs.Prelude.{◌≡◌, ◌≤◌, ◌<◌, ◌∷◌, IsTrue, Bool, true, false, not, ◌||◌, length, [], codes, if◌then◌else◌, Option, None, Some, option_map};
 ghost use Rattle.sws_site.specs.declared.statuses.Status.{Status as StatusValue};
 ghost use Rattle.sws_answer.specs.Cases.{lacks_host, is_malformed, is_one_of, file_methods, other_methods};
-ghost use Rattle.sws_answer.specs.Answers.{is_head_request, response, request_answer, answer_of};
+ghost use Rattle.sws_answer.specs.Answers.{is_head_request, response, request_answer, answer_of, target_of};
+ghost use Rattle.sws_answer.specs.Asked.{asked_by};
 ghost use Rattle.sws_site.specs.Files.{File};
 ghost use Rattle.sws_site.specs.Folders.{folder_index};
 ghost use Rattle.sws_answer.specs.FileAnswers.{file_answer, folder_answer, name_answer, redirect_parts as parts_to};
@@ -10,11 +11,11 @@ ghost use Rattle.sws_answer.specs.declared.ranges.Selection.{Selection as Select
 ghost use Rattle.sws_answer.specs.declared.ranges.Selection.TheVariants.{Whole, Part, Unsatisfied};
 ghost use Rattle.sws_site.specs.Fixed.{is_fixed};
 ghost use Rattle.sws_answer.specs.Targets.{slash, name_said_by};
-ghost use Rattle.sws_answer.specs.AnswerValues.{asked_value, IsPageOf, Sends};
+ghost use Rattle.sws_answer.specs.AnswerValues.{asked_value, IsPageOf, Sends, sent_as};
 ghost use Rattle.sws_answer.specs.Closing.{is_closing};
 
-use crate::answers::Answer;
-use crate::asking::Asked;
+use crate::answers::{Answer, Answered};
+use crate::asking::{Asked, NO_TARGET};
 use crate::closing::closes_connection;
 use crate::conditions::is_not_modified;
 use crate::fields::count_of;
@@ -22,8 +23,8 @@ use crate::framing::is_read_in_two_ways;
 use crate::path_room::PathRoom;
 use crate::ranges::{Selection, select_part};
 use crate::targets::{behind_first_slash, path_part, write_name};
-use sws_parts::{OwnHead, Parts};
-use sws_request::RequestView;
+use sws_parts::Parts;
+use sws_request::{RequestView, view};
 use sws_site::{ContentRange, HeadKind, HeadParts, Page, Site, Status, write_head};
 
 /// Whether the request has not the one field Host that it needs.
@@ -68,71 +69,77 @@ fn leaves_content_out(request: &RequestView<'_>) -> bool
     request.method() == b"HEAD".as_slice()
 }
 
-/// The parts of a response, of which the content may be left out.
-fn parts_of<'s>(head: &'s [u8], body: &'s [u8], is_head: bool) -> Parts<'s>
-    ensures head { result.head ≡ head.now }
-    ensures body { result.body ≡ (if is_head then [] else body.now) }
+/// The content of a response, which may be left out.
+fn content<'s>(body: &'s [u8], is_head: bool) -> &'s [u8]
+    ensures { result.now ≡ (if is_head then [] else body.now) }
 {
     if is_head {
-        return Parts::new(head, b"");
+        return b"";
     }
-    Parts::new(head, body)
-}
-
-/// [`parts_of`] where the head is the response's own.
-fn own_parts<'s>(head: OwnHead, body: &'s [u8], is_head: bool) -> Parts<'s>
-    ensures head { result.head ≡ head }
-    ensures body { result.body ≡ (if is_head then [] else body.now) }
-{
-    if is_head {
-        return Parts::with_own(head, b"");
-    }
-    Parts::with_own(head, body)
+    body
 }
 
 /// The response that refuses with this status: its content says the status, in one line.
-fn refuse<'s>(site: &'s Site, status: Status, closes: bool, is_head: bool) -> Answer<'s>
+fn refuse<'s>(
+    site: &'s Site,
+    status: Status,
+    closes: bool,
+    is_head: bool,
+    parts: &mut Parts<'s>,
+) -> Answered
     requires { IsTrue (is_fixed status) }
-    ensures { Sends result (response site.now status None Whole closes is_head) }
+    ensures { Sends (sent_as result parts.new) (response site.now status None Whole closes is_head) }
 {
     let (head, body) = site.refusal(status, closes);
-    Answer {
-        parts: parts_of(head, body, is_head),
+    parts.lend(head, content(body, is_head));
+    Answered {
         closes,
         code: status.code(),
     }
 }
 
 /// The response that sends a file whole.
-fn send_file<'s>(site: &'s Site, page: &Page<'s>, closes: bool, is_head: bool) -> Answer<'s>
+fn send_file<'s>(
+    site: &'s Site,
+    page: &Page<'s>,
+    closes: bool,
+    is_head: bool,
+    parts: &mut Parts<'s>,
+) -> Answered
     requires { IsPageOf site.now page.now }
-    ensures { Sends result (response site.now StatusValue.Success (Some page.now.file)
-        Whole closes is_head) }
+    ensures { Sends (sent_as result parts.new) (response site.now StatusValue.Success
+        (Some page.now.file) Whole closes is_head) }
 {
     let head = page.head(HeadKind {
         changed: true,
         closes,
     });
-    Answer {
-        parts: parts_of(head, page.body(), is_head),
+    parts.lend(head, content(page.body(), is_head));
+    Answered {
         closes,
         code: Status::Success.code(),
     }
 }
 
 /// The response that a file was not modified, whatever part of it is asked for.
-fn say_not_modified<'s>(site: &'s Site, page: &Page<'s>, closes: bool, is_head: bool) -> Answer<'s>
+fn say_not_modified<'s>(
+    site: &'s Site,
+    page: &Page<'s>,
+    closes: bool,
+    is_head: bool,
+    parts: &mut Parts<'s>,
+) -> Answered
     requires { IsPageOf site.now page.now }
     ensures { (selection : SelectionValue)
-        → Sends result (response site.now StatusValue.NotModified (Some page.now.file)
-        selection closes is_head) }
+        → Sends (sent_as result parts.new) (response site.now StatusValue.NotModified
+        (Some page.now.file) selection closes is_head) }
 {
     let head = page.head(HeadKind {
         changed: false,
         closes,
     });
-    Answer {
-        parts: parts_of(head, b"", is_head),
+    parts.lend(head, content(b"", is_head));
+    Answered {
         closes,
         code: Status::NotModified.code(),
     }
@@ -146,11 +153,12 @@ fn send_part<'s>(
     last: usize,
     closes: bool,
     is_head: bool,
-) -> Answer<'s>
+    parts: &mut Parts<'s>,
+) -> Answered
     requires page { IsPageOf site.now page.now }
     requires part { (first ≤ last) × (last < length page.now.file.1) }
-    ensures { Sends result (response site.now StatusValue.PartialContent (Some page.now.file)
-        (Part first last) closes is_head) }
+    ensures { Sends (sent_as result parts.new) (response site.now StatusValue.PartialContent
+        (Some page.now.file) (Part first last) closes is_head) }
 {
     let body = page.body();
     let part = &body[first..last + 1];
@@ -160,15 +168,15 @@ fn send_part<'s>(
         closes,
         date: site.http_date(),
         range: Some(ContentRange::Selected {
-            first: first as u32,
-            last: last as u32,
-            len: body.len() as u32,
+            first: first as u64,
+            last: last as u64,
+            len: body.len() as u64,
         }),
         media_type: page.media_type(),
         len: part.len(),
     });
-    Answer {
-        parts: own_parts(head, part, is_head),
+    parts.own(head, content(part, is_head));
+    Answered {
         closes,
         code: Status::PartialContent.code(),
     }
@@ -178,8 +186,14 @@ fn send_part<'s>(
 const NO_SUCH_PART: &[u8] = b"416 Range Not Satisfiable\n";
 
 /// The response that a file has no such part as the request asks for.
-fn refuse_range<'s>(site: &'s Site, page: &Page<'s>, closes: bool, is_head: bool) -> Answer<'s>
-    ensures { Sends result (response site.now StatusValue.RangeNotSatisfiable
+fn refuse_range<'s>(
+    site: &'s Site,
+    page: &Page<'s>,
+    closes: bool,
+    is_head: bool,
+    parts: &mut Parts<'s>,
+) -> Answered
+    ensures { Sends (sent_as result parts.new) (response site.now StatusValue.RangeNotSatisfiable
         (Some page.now.file) Unsatisfied closes is_head) }
 {
     let head = write_head(&HeadParts {
@@ -188,13 +202,13 @@ fn refuse_range<'s>(site: &'s Site, page: &Page<'s>, closes: bool, is_head: bool
         closes,
         date: site.http_date(),
         range: Some(ContentRange::NoSuch {
-            len: page.body().len() as u32,
+            len: page.body().len() as u64,
         }),
         media_type: b"text/plain",
         len: NO_SUCH_PART.len(),
     });
-    Answer {
-        parts: own_parts(head, NO_SUCH_PART, is_head),
+    parts.own(head, content(NO_SUCH_PART, is_head));
+    Answered {
         closes,
         code: Status::RangeNotSatisfiable.code(),
     }
@@ -207,18 +221,19 @@ fn answer_file<'s>(
     page: &Page<'s>,
     closes: bool,
     is_head: bool,
-) -> Answer<'s>
+    parts: &mut Parts<'s>,
+) -> Answered
     requires { IsPageOf site.now page.now }
-    ensures { (index : Option File) → Sends result
+    ensures { (index : Option File) → Sends (sent_as result parts.new)
         (file_answer site.now request.now (Some page.now.file) index closes is_head) }
 {
     if is_not_modified(site.http_date(), request) {
-        return say_not_modified(site, page, closes, is_head);
+        return say_not_modified(site, page, closes, is_head, parts);
     }
     match select_part(request, page.body().len()) {
-        Selection::Whole => send_file(site, page, closes, is_head),
-        Selection::Part(first, last) => send_part(site, page, first, last, closes, is_head),
-        Selection::Unsatisfied => refuse_range(site, page, closes, is_head),
+        Selection::Whole => send_file(site, page, closes, is_head, parts),
+        Selection::Part(first, last) => send_part(site, page, first, last, closes, is_head, parts),
+        Selection::Unsatisfied => refuse_range(site, page, closes, is_head, parts),
     }
 }
 
@@ -247,17 +262,25 @@ fn redirect_parts<'s>(
 
 /// The answer to a request whose name, which is in the room, no file has: a redirect where a folder
 /// has it.
-fn answer_folder<'s>(site: &'s Site, closes: bool, is_head: bool, room: &mut PathRoom) -> Answer<'s>
-    ensures { Sends result
+fn answer_folder<'s>(
+    site: &'s Site,
+    closes: bool,
+    is_head: bool,
+    room: &mut PathRoom,
+    parts: &mut Parts<'s>,
+) -> Answered
+    ensures { Sends (sent_as result parts.new)
         (folder_answer site.now (folder_index site.now room.old) closes is_head) }
 {
     match redirect_parts(site, closes, room) {
-        Some((head, body)) => Answer {
-            parts: parts_of(head, body, is_head),
-            closes,
-            code: Status::MovedPermanently.code(),
-        },
-        None => refuse(site, Status::NotFound, closes, is_head),
+        Some((head, body)) => {
+            parts.lend(head, content(body, is_head));
+            Answered {
+                closes,
+                code: Status::MovedPermanently.code(),
+            }
+        }
+        None => refuse(site, Status::NotFound, closes, is_head, parts),
     }
 }
 
@@ -269,17 +292,18 @@ fn answer_path<'s>(
     closes: bool,
     is_head: bool,
     room: &mut PathRoom,
-) -> Answer<'s>
-    ensures { Sends result (name_answer site.now request.now
+    parts: &mut Parts<'s>,
+) -> Answered
+    ensures { Sends (sent_as result parts.new) (name_answer site.now request.now
         (name_said_by site.now.options (slash ∷ path.now)) closes is_head) }
 {
     if !write_name(site.options(), path, room) {
         site.limits();
-        return refuse(site, Status::NotFound, closes, is_head);
+        return refuse(site, Status::NotFound, closes, is_head, parts);
     }
     match site.lookup(room.bytes()) {
-        Some(page) => answer_file(site, request, &page, closes, is_head),
-        None => answer_folder(site, closes, is_head, room),
+        Some(page) => answer_file(site, request, &page, closes, is_head, parts),
+        None => answer_folder(site, closes, is_head, room, parts),
     }
 }
 
@@ -297,35 +321,83 @@ fn answer_request<'s>(
     request: &RequestView<'_>,
     last: bool,
     room: &mut PathRoom,
-) -> Answer<'s>
-    ensures { Sends result (request_answer site.now request.now last) }
+    parts: &mut Parts<'s>,
+) -> Answered
+    ensures { Sends (sent_as result parts.new) (request_answer site.now request.now last) }
 {
     let closes = closes_after(request, last);
     let is_head = leaves_content_out(request);
     if is_refused(site, request) {
-        return refuse(site, Status::BadRequest, true, is_head);
+        return refuse(site, Status::BadRequest, true, is_head, parts);
     }
     if is_other_method(request.method()) {
-        return refuse(site, Status::MethodNotAllowed, closes, is_head);
+        return refuse(site, Status::MethodNotAllowed, closes, is_head, parts);
     }
     if !is_file_method(request.method()) {
-        return refuse(site, Status::NotImplemented, closes, is_head);
+        return refuse(site, Status::NotImplemented, closes, is_head, parts);
     }
     match behind_first_slash(request.target()) {
-        Some(rest) => answer_path(site, request, path_part(rest), closes, is_head, room),
-        None => refuse(site, Status::BadRequest, true, is_head),
+        Some(rest) => answer_path(site, request, path_part(rest), closes, is_head, room, parts),
+        None => refuse(site, Status::BadRequest, true, is_head, parts),
     }
 }
 
-/// The answer to what was asked. With `last` it is the last one of its connection, and closes it.
+/// Puts the answer to what was asked into the parts of a connection. With `last` it is the last one
+/// of its connection, and closes it.
 ///
-/// `room` serves for the name of the file; what was in it before does not matter.
+/// `room` serves for the name of the file; what was in it before does not matter. Nothing of the
+/// answer is moved: whoever answers many heads keeps one value of [`Parts`].
+pub fn answer_into<'s>(
+    site: &'s Site,
+    asked: &Asked<'_>,
+    last: bool,
+    room: &mut PathRoom,
+    parts: &mut Parts<'s>,
+) -> Answered
+    ensures { Sends (sent_as result parts.new) (answer_of site.now (asked_value asked.now) last) }
+{
+    match asked {
+        Asked::Request(request) => answer_request(site, request, last, room, parts),
+        Asked::NotARequest => refuse(site, Status::BadRequest, true, false, parts),
+        Asked::TooLong => refuse(site, Status::HeaderFieldsTooLarge, true, false, parts),
+    }
+}
+
+/// The answer to what was asked, as that of [`answer_into`], in a value of its own.
 pub fn answer<'s>(site: &'s Site, asked: &Asked<'_>, last: bool, room: &mut PathRoom) -> Answer<'s>
     ensures { Sends result (answer_of site.now (asked_value asked.now) last) }
 {
-    match asked {
-        Asked::Request(request) => answer_request(site, request, last, room),
-        Asked::NotARequest => refuse(site, Status::BadRequest, true, false),
-        Asked::TooLong => refuse(site, Status::HeaderFieldsTooLarge, true, false),
+    let mut parts = Parts::new(b"", b"");
+    let Answered { closes, code } = answer_into(site, asked, last, room, &mut parts);
+    Answer {
+        parts,
+        closes,
+        code,
+    }
+}
+
+/// Puts the answer to a whole head into the parts, as [`answer_into`] does with what
+/// [`ask`](crate::ask) says of it, and gives the target that was asked for beside it. A request is
+/// read where it lies, as its fields take 2 KiB that no answer needs to move.
+pub fn answer_head<'s, 'b>(
+    site: &'s Site,
+    head: &'b [u8],
+    last: bool,
+    room: &mut PathRoom,
+    parts: &mut Parts<'s>,
+) -> (Answered, &'b [u8])
+    ensures answer { Sends (sent_as result.0 parts.new)
+        (answer_of site.now (asked_by head.now) last) }
+    ensures target { result.1.now ≡ target_of (asked_by head.now) }
+{
+    match &view(head) {
+        Ok(request) => {
+            let answered = answer_request(site, request, last, room, parts);
+            (answered, request.target())
+        }
+        Err(_) => {
+            let answered = refuse(site, Status::BadRequest, true, false, parts);
+            (answered, NO_TARGET)
+        }
     }
 }

@@ -12,3 +12,12 @@ pub struct Answer<'s> {
     /// The status code: 200, 206, 301, 304, 400, 404, 405, 416, 431 or 501.
     pub code: u16,
 }
+
+/// How the answer ends that stands in some parts.
+#[derive(Clone, Copy)]
+pub struct Answered {
+    /// The connection ends after it.
+    pub closes: bool,
+    /// The status code, as that of an [`Answer`].
+    pub code: u16,
+}

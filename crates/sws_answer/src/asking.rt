@@ -6,6 +6,9 @@ ghost use Rattle.sws_answer.specs.Answers.{target_of};
 
 use sws_request::{RequestView, view};
 
+/// What stands for the target where there is no request.
+pub(crate) const NO_TARGET: &[u8] = b"-";
+
 /// What a client asks by a head.
 #[derive(Drop)]
 pub enum Asked<'b> {
@@ -34,6 +37,6 @@ pub fn target<'b>(asked: &Asked<'b>) -> &'b [u8]
 {
     match asked {
         Asked::Request(request) => request.target(),
-        Asked::NotARequest | Asked::TooLong => b"-",
+        Asked::NotARequest | Asked::TooLong => NO_TARGET,
     }
 }

@@ -20,7 +20,7 @@ pub fn responses_only_grow()
 {}
 
 /// Every answer has a head, and the last answer of a connection closes it, as does the one to a
-/// head that is too long. Out of a site within its limits none is longer than 2^33 bytes.
+/// head that is too long. Out of a site within its limits none is longer than 2^34 bytes.
 pub fn every_answer()
     ensures head { (site : SiteState) (asked : Asked) (last : Bool)
         → 0 < length (answer_of site asked last).head }

@@ -32,7 +32,7 @@ mod path_room;
 mod ranges;
 mod targets;
 
-pub use answering::answer;
-pub use answers::Answer;
+pub use answering::{answer, answer_head, answer_into};
+pub use answers::{Answer, Answered};
 pub use asking::{Asked, ask, target};
 pub use path_room::{PATH_ROOM, PathRoom};

@@ -9,7 +9,8 @@ use Rattle.std.proofs.lemmas.List.FromFn.{length-map-range_with_len, get_or-map-
 use Rattle.std.proofs.lemmas.Fmt.{length-decimal-le}
 use Rattle.sws_link.specs.FolderFiles.{files_of}
 use Rattle.sws_site.specs.Files.{File}
-use Rattle.sws_site.specs.Limits.{IsWithinLimits, IsLimitOf, bytes_of, limit_of}
+use Rattle.sws_site.specs.Limits.{IsWithinOptions, IsLimitOf, bytes_of, limit_of}
+use Rattle.sws_site.specs.Options.{plain_options}
 use Rattle.sws_site.specs.declared.site_faults.SiteFault.{SiteFault}
 use Rattle.sws_site.specs.declared.site_faults.SiteFault.TheVariants.{TooManyFiles, LongName, TooManyBytes, Fault, Memory}
 use Rattle.sws_site.proofs.LimitLemmas.{limit_of-none}
@@ -38,7 +39,7 @@ unfolding bench_files
 bytes_of-bench_files = λ i. sum_by (λ (number : ℕ). length-contents number i) (range_with_len 0 16)
 
 -- sixteen files of 8,704 bytes in all
-within_limits : IsWithinLimits bench_files
+within_limits : IsWithinOptions plain_options bench_files
 unfolding bench_files
 within_limits = record {
   count = lit≤ tt;
@@ -48,13 +49,13 @@ within_limits = record {
   bytes = let all = bytes_of-bench_files in omega arith;
 }
 
-limit_of-bench_files : limit_of bench_files ≡ None
-limit_of-bench_files = limit_of-none bench_files within_limits
+limit_of-bench_files : limit_of plain_options bench_files ≡ None
+limit_of-bench_files = limit_of-none plain_options bench_files within_limits
 
 -- so loading them meets none
-pub meets_none : (files : List File) (fault : SiteFault) → files ≡ bench_files → IsLimitOf files fault → (fault ≡ Fault) ⊎ (fault ≡ Memory)
-meets_none files (TooManyFiles count) same met = let none = ap limit_of same ∙ limit_of-bench_files in absurd (cc)
-meets_none files (LongName number) same met = let none = ap limit_of same ∙ limit_of-bench_files in absurd (cc)
-meets_none files (TooManyBytes number) same met = let none = ap limit_of same ∙ limit_of-bench_files in absurd (cc)
+pub meets_none : (files : List File) (fault : SiteFault) → files ≡ bench_files → IsLimitOf plain_options files fault → (fault ≡ Fault) ⊎ (fault ≡ Memory)
+meets_none files (TooManyFiles count) same met = let none = ap (limit_of plain_options) same ∙ limit_of-bench_files in absurd (cc)
+meets_none files (LongName number) same met = let none = ap (limit_of plain_options) same ∙ limit_of-bench_files in absurd (cc)
+meets_none files (TooManyBytes number) same met = let none = ap (limit_of plain_options) same ∙ limit_of-bench_files in absurd (cc)
 meets_none files Fault same met = inl refl
 meets_none files Memory same met = inr refl

@@ -23,14 +23,14 @@
 //! `sws_lane` serves by the one or the other, by whether a log is kept:
 //!
 //! ```text
-//! talk_all::<R, W, LoggedBursts<Conn<'_, W::Link>, W::Link>, OpenGate>(
+//! talk_all::<R, W, Bursts<Conn<'_, W::Link>>, OpenGate>(
 //!     rt,
 //!     alloc,
 //!     site,
 //!     &terms.shape,
 //!     world,
 //!     &OpenGate,
-//!     true,
+//!     false,
 //!     false,
 //! )
 //! ```

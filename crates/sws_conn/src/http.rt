@@ -7,7 +7,7 @@ ghost use Rattle.sws_conn.specs.Http.{http, shown_limit};
 
 use crate::buffer::Buffer;
 use std::alloc::Global;
-use sws_answer::{Answer, Asked, PathRoom, answer, ask, target};
+use sws_answer::{Asked, PathRoom, answer_head, answer_into, target};
 use sws_link::{Link, LinkRead, Memory};
 use sws_log::Brief;
 use sws_parts::Parts;
@@ -23,6 +23,15 @@ pub struct Http<'s> {
     parts: Parts<'s>,
     note: Note,
     room: PathRoom,
+}
+
+impl<'s> Http<'s> {
+    /// The bytes that were taken and not yet answered.
+    pub fn taken(&self) -> &[u8]
+        ensures { result.now ≡ self.now.buffer }
+    {
+        self.buffer.bytes()
+    }
 }
 
 /// A connection of HTTP over a link, which does one step at a time.
@@ -92,11 +101,17 @@ impl<'s> Speech for Http<'s> {
     fn answer(&mut self, last: bool) -> bool {
         match self.buffer.cut() {
             Cut::Head { len } => {
-                let asked = ask(&self.buffer.bytes()[..len]);
-                let given = answer(self.site, &asked, last, &mut self.room);
-                let closes = send(&mut self.parts, &mut self.note, given, target(&asked));
+                let head = &self.buffer.bytes()[..len];
+                let (answered, target) = answer_head(
+                    self.site,
+                    head,
+                    last,
+                    &mut self.room,
+                    &mut self.parts,
+                );
+                note_answer(&mut self.note, answered.code, &self.parts, target);
                 self.buffer.drop_front(len);
-                closes
+                answered.closes
             }
             Cut::TooLong => {
                 self.buffer.clear();
@@ -133,25 +148,20 @@ impl<'s> Speech for Http<'s> {
     ghost orderly = { http-orderly };
 }
 
-/// An answer to this target is written next, and noted for a log. Whether the connection ends with
-/// it.
-fn send<'s>(parts: &mut Parts<'s>, note: &mut Note, given: Answer<'s>, target: &[u8]) -> bool
-    ensures parts { parts.new ≡ given.entry.parts }
-    ensures note { note.new ≡ record {
-      code = given.entry.code;
-      length = length (unsent_bytes given.entry.parts);
+/// Notes the answer that is written next, to this target, for a log.
+fn note_answer(note: &mut Note, code: u16, parts: &Parts<'_>, target: &[u8])
+    ensures { note.new ≡ record {
+      code = code;
+      length = length (unsent_bytes parts.now);
       target = take shown_limit target.now;
     } }
-    ensures closes { result ≡ given.entry.closes }
 {
-    note.code = given.code;
-    note.length = given.parts.left() as u64;
+    note.code = code;
+    note.length = parts.left() as u64;
     note.target = Brief::of(target);
-    *parts = given.parts;
-    given.closes
 }
 
-/// Answers a head that is too long, like `send`. It stands apart, so that the room that it takes on
+/// Answers a head that is too long, and notes the answer. It stands apart, so that the room that it takes on
 /// the stack is not paid for where a head is short enough.
 #[cold]
 #[inline(never)]
@@ -165,6 +175,7 @@ fn refuse<'s>(
     ensures { AnswersFirst http site.now [] last TooLong [] parts.new note.new result }
 {
     let asked = Asked::TooLong;
-    let given = answer(site, &asked, last, room);
-    send(parts, note, given, target(&asked))
+    let answered = answer_into(site, &asked, last, room, parts);
+    note_answer(note, answered.code, parts, target(&asked));
+    answered.closes
 }

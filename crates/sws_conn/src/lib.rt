@@ -27,7 +27,7 @@
 #![tactic(auto)]
 
 mod buffer;
-mod http;
+pub mod http;
 pub mod laws;
 mod serving;
 mod window;

@@ -1,5 +1,5 @@
 -- What the words order, and by which terms it is served.
-use Rattle.std.specs.Prelude.{ℕ, min, max, Bool, true, false, nat_eq, if◌then◌else◌}
+use Rattle.std.specs.Prelude.{ℕ, min, max, Bool, true, false, nat_eq, if◌then◌else◌, is_some}
 use Rattle.std.specs.Net.Socket.{socket_port}
 use Rattle.mely_history.specs.declared.shape.Shape.{Shape}
 use Rattle.sws_lane.specs.declared.lane.Terms.{Terms}
@@ -20,12 +20,12 @@ shape_by workers = record {
   group = 4;
 }
 
--- the terms of an order: its port, its log, its workers as far as a run has so many, and its
+-- the terms of an order: its port, whether a log is asked for, its workers as far as a run has so many, and its
 -- connections likewise
 abbrev pub terms_by : Order → Terms
 terms_by order = record {
   port = socket_port order.listen;
   connections = between 1 1024 order.connections;
   shape = shape_by (between 1 64 order.workers);
-  log = order.log;
+  log = is_some order.log;
 }

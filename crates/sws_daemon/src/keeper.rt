@@ -32,6 +32,9 @@ const TICK: u64 = 100;
 /// The status of a program that has no fault.
 const NO_FAULT: u64 = 0;
 
+/// That of one whose output can't be written: as of `sws`.
+const UNWRITTEN: u64 = 5;
+
 /// What all lanes share beside the door and the site.
 #[derive(Drop)]
 pub struct Common {
@@ -51,7 +54,8 @@ pub struct Common {
     /// Whether a generation has ever ended well.
     has_served: AtomicBool,
 
-    /// The status of the program, once no lane was able to serve at all.
+    /// The status of the program, once no lane was able to serve at all, or its log can't be
+    /// written and it stops for that.
     fault: AtomicU64,
 }
 
@@ -75,7 +79,12 @@ impl Common {
         self.waiting.load(Ordering::SeqCst) > 0 || self.lanes <= self.accepting
     }
 
-    /// The status of the fault by which no lane was able to serve, where it was so.
+    /// The program ends since its log can't be written.
+    pub fn end_unlogged(&self) {
+        self.fault.store(UNWRITTEN, Ordering::SeqCst);
+    }
+
+    /// The status of the fault by which the program ends, where it does by one.
     pub fn fault(&self) -> Option<u8> {
         match u8::try_from(self.fault.load(Ordering::SeqCst)) {
             Ok(0) => None,
@@ -242,15 +251,6 @@ impl<'d, T: Wait + Clock> LaneKeeper<'d, T> {
         self.failures = 0;
         self.common.has_served.store(true, Ordering::SeqCst);
     }
-
-    /// Writes the lines of a generation, unless its run went wrong.
-    fn print_lines(&self, told: &Told, cause: Option<Cause>) {
-        match cause {
-            Some(Cause::Memory) => self.voice.warn_of_lines(self.lane, told.lines.len()),
-            Some(Cause::Apart) => self.voice.warn_of_lines(self.lane, told.lines.len()),
-            _ => self.voice.print_lines(&told.lines),
-        }
-    }
 }
 
 impl<'d, T: Wait + Clock> Keeper for LaneKeeper<'d, T> {
@@ -289,7 +289,6 @@ impl<'d, T: Wait + Clock> Keeper for LaneKeeper<'d, T> {
             && !self.entrance.door.is_inside(self.lane);
         self.entrance.door.leave(self.lane);
         let cause = if is_retired { None } else { cause_of(&told) };
-        self.print_lines(&told, cause);
         if cause.is_none() || told.totals.done > 0 {
             self.succeed();
         }

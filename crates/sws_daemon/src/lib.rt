@@ -10,12 +10,14 @@
 //! | `sws_shelf` | the site that generations begin with, loaded anew where the folder has changed |
 //! | `sws_outbox` | what is said and not yet written, so that no lane ever waits for an output |
 //! | [`Rounds`] | when it is looked whether the folder has changed |
+//! | [`LineClerk`] | makes the lines of the access log, as answers are written |
 //! | [`LaneKeeper`] | keeps one lane going, and says how its generations ended |
 //! | [`serve_folder`] | all lanes, from the listener to the totals |
 //! | [`command`] | the program |
 #![tactic(auto)]
 
 mod cause;
+mod clerk;
 mod keeper;
 mod program;
 mod rounds;
@@ -24,6 +26,7 @@ mod serving;
 mod watching;
 
 pub use cause::{Cause, cause_of};
+pub use clerk::{LineClerk, LogDesk};
 pub use keeper::LaneKeeper;
 pub use program::command;
 pub use rounds::Rounds;

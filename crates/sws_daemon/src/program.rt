@@ -93,6 +93,7 @@ fn refuse(rt: &HostRuntime, fault: &WordsFault) -> u8 {
             7
         }
         WordsFault::Listen(_)
+        | WordsFault::ManyAddresses(_)
         | WordsFault::HeaderParts(_)
         | WordsFault::Header(_, _)
         | WordsFault::TypeParts(_)

@@ -8,8 +8,6 @@ use std::fmt;
 use std::net::SocketAddr;
 use std::sync::Wait;
 use sws_lane::Totals;
-use sws_link::{Put, SureSink};
-use sws_log::{LogLine, write_log};
 use sws_outbox::Outbox;
 use sws_shelf::{LoadFault, Notes};
 
@@ -72,6 +70,11 @@ impl<'d, T: Wait> Voice<'d, T> {
         }
     }
 
+    /// Whether the machine has ever refused to write to standard output.
+    pub fn has_refused(&self) -> bool {
+        self.outbox.has_refused(self.threads)
+    }
+
     /// Says what has gone well.
     pub fn tell<D: fmt::Display + Drop>(&self, line: D) {
         if !self.quiet {
@@ -87,10 +90,18 @@ impl<'d, T: Wait> Voice<'d, T> {
     }
 
     /// Says where the program listens, and by how many lanes and workers.
-    pub fn tell_of_start(&self, address: SocketAddr, lanes: u16, accepting: u16, workers: u16) {
-        self.tell(format_args!(
-            "listening at {address}: {lanes} lanes, of which {accepting} take connections at a time, with a worker count of {workers} each"
-        ));
+    pub fn tell_of_start(
+        &self,
+        addresses: &[SocketAddr],
+        lanes: u16,
+        accepting: u16,
+        workers: u16,
+    ) {
+        for address in addresses {
+            self.tell(format_args!(
+                "listening at {address}: {lanes} lanes, of which {accepting} take connections at a time, with a worker count of {workers} each"
+            ));
+        }
     }
 
     /// Says that the folder was loaded anew, since it has changed or since somebody has asked.
@@ -121,31 +132,6 @@ impl<'d, T: Wait> Voice<'d, T> {
     /// Says why a generation of this lane has failed.
     pub fn warn_of_lane(&self, lane: usize, cause: Cause) {
         self.warn(format_args!("lane {lane}: {cause}"));
-    }
-
-    /// Leaves the lines of an access log for standard output. Those that there is no memory for are
-    /// counted as dropped.
-    pub fn print_lines(&self, lines: &[LogLine]) {
-        if lines.is_empty() {
-            return;
-        }
-        let alloc = self.outbox.alloc();
-        let count = lines.len() as u64;
-        let mut text = SureSink::new(alloc);
-        match write_log(alloc, &mut text, lines) {
-            Put::Done => {
-                self.outbox.print(self.threads, text.written(), count);
-            }
-            Put::Failed => self.outbox.lose_lines(self.threads, count),
-            Put::Memory => self.outbox.lose_lines(self.threads, count),
-        }
-    }
-
-    /// Says that the lines of a run that went wrong are not written.
-    pub fn warn_of_lines(&self, lane: usize, lines: usize) {
-        if lines > 0 {
-            self.warn(format_args!("lane {lane}: {lines} lines of its log are not written"));
-        }
     }
 }
 

@@ -4,12 +4,13 @@ ghost use Rattle.sws_lane.specs.Terms.{AreTerms};
 ghost use Rattle.sws_daemon.specs.Orders.{terms_by};
 ghost use Rattle.sws_daemon.specs.Sums.{sum_of};
 
+use crate::clerk::{LineClerk, LogDesk};
 use crate::keeper::{Common, LaneKeeper};
 use crate::saying::Voice;
 use crate::watching::{Curfew, Watch};
 use mely_history::Shape;
 use std::alloc::AllocError;
-use std::net::TcpListener;
+use std::net::{SocketAddr, TcpListener};
 use std::rt::Clock;
 use std::sync::Wait;
 use std::thread::{self, Threads};
@@ -19,13 +20,16 @@ use sws_lane::{Lane, Terms, Totals, keep_serving};
 use sws_net::{Door, Entrance, LaneWorld, StopFile, listen};
 use sws_outbox::Outbox;
 use sws_shelf::{LoadFault, Notes, Origin, Shelf};
-use swsd_words::Order;
+use swsd_words::{LogFault, LogFormat, Order};
 
 /// Why a folder can't be served.
 #[derive(Debug, Drop)]
 pub enum ServeFault {
-    /// Nobody can connect there.
-    Listen(io::Error),
+    /// Nobody can connect at this address.
+    Listen(SocketAddr, io::Error),
+
+    /// The machine says nothing of a listener.
+    Listener(io::Error),
 
     /// The folder can't be loaded.
     Load(LoadFault),
@@ -48,14 +52,15 @@ impl From<LoadFault> for ServeFault {
 
 impl From<io::Error> for ServeFault {
     fn from(error: io::Error) -> ServeFault {
-        ServeFault::Listen(error)
+        ServeFault::Listener(error)
     }
 }
 
 impl fmt::Display for ServeFault {
     fn fmt<W: fmt::Write>(&self, f: &mut fmt::Formatter<W>) -> fmt::Result {
         match self {
-            ServeFault::Listen(error) => write!(f, "can't listen: {error}"),
+            ServeFault::Listen(address, error) => write!(f, "can't listen at {address}: {error}"),
+            ServeFault::Listener(error) => write!(f, "can't listen: {error}"),
             ServeFault::Load(fault) => write!(f, "can't serve: {fault}"),
             ServeFault::Memory => write!(f, "out of memory"),
         }
@@ -66,7 +71,8 @@ impl ServeFault {
     /// The status of a program that ends with it: as of `sws`.
     pub fn status(&self) -> u8 {
         match self {
-            ServeFault::Listen(_) => 6,
+            ServeFault::Listen(_, _) => 6,
+            ServeFault::Listener(_) => 6,
             ServeFault::Load(fault) => fault.status(),
             ServeFault::Memory => 7,
         }
@@ -78,7 +84,8 @@ impl ServeFault {
 pub struct Served {
     pub totals: Totals,
 
-    /// The status of the fault by which no lane was able to serve at all, where it was so.
+    /// The status of the fault by which the program ends, where it does by one: no lane was able to
+    /// serve at all, or the log can't be written.
     pub fault: Option<u8>,
 }
 
@@ -87,6 +94,7 @@ pub struct Served {
 struct Job<'d, T: Wait + Clock> {
     lane: Lane<LaneWorld<'d>, LaneKeeper<'d, T>>,
     terms: Terms,
+    desk: LogDesk<'d, T>,
     ghost in_range: { AreTerms terms },
 }
 
@@ -109,14 +117,21 @@ fn terms_of(order: &Order) -> Terms
         port: order.listen.port(),
         connections: order.connections.max(1).min(1024),
         shape,
-        log: order.log,
+        log: order.log.is_some(),
     }
 }
 
 /// Serves one generation after another. Where one has lost its world, the next has a new one.
 fn serve_lane<T: AllocGlobal + Threads + Wait + Sync + Clock>(threads: &T, job: &mut Job<'_, T>) {
     for _ in threads.forever() {
-        keep_serving(threads, threads.alloc(), &job.terms, &mut job.lane);
+        let (alloc, desk) = (threads.alloc(), job.desk);
+        keep_serving::<T, LaneWorld<'_>, LaneKeeper<'_, T>, LineClerk<'_, T>>(
+            threads,
+            alloc,
+            &job.terms,
+            desk,
+            &mut job.lane,
+        );
         if job.lane.world.is_some() {
             return;
         }
@@ -131,7 +146,7 @@ fn serve_lane<T: AllocGlobal + Threads + Wait + Sync + Clock>(threads: &T, job: 
 ///
 /// # Errors
 ///
-/// `Listen` where nobody can connect there, `Load` where the folder can't be loaded, and `Memory`
+/// `Listen` where nobody can connect at an address, `Load` where the folder can't be loaded, and `Memory`
 /// where an allocation was refused before the first generation.
 pub fn serve_folder<T: AllocGlobal + Threads + Wait + Sync + Clock>(
     rt: &HostRuntime,
@@ -139,13 +154,35 @@ pub fn serve_folder<T: AllocGlobal + Threads + Wait + Sync + Clock>(
     order: Order,
     outbox: &Outbox,
 ) -> Result<Served, ServeFault> {
-    let listener = listen(rt, order.listen)?;
-    serve_at(rt, threads, order, &listener, outbox)
+    let listeners = listen_all(rt, &order)?;
+    serve_at(rt, threads, order, &listeners, outbox)
+}
+
+/// Listens at this address, and keeps its listeners behind those that are there.
+fn listen_at(
+    rt: &HostRuntime,
+    address: SocketAddr,
+    listeners: &mut Vec<TcpListener>,
+) -> Result<(), ServeFault> {
+    match listen(rt, address, listeners) {
+        Ok(()) => Ok(()),
+        Err(error) => Err(ServeFault::Listen(address, error)),
+    }
+}
+
+/// Listens wherever the order says, its first address first.
+fn listen_all(rt: &HostRuntime, order: &Order) -> Result<Vec<TcpListener>, ServeFault> {
+    let mut listeners = Vec::new(rt.alloc());
+    listen_at(rt, order.listen, &mut listeners)?;
+    for address in &order.listen_too {
+        listen_at(rt, *address, &mut listeners)?;
+    }
+    Ok(listeners)
 }
 
 /// What all lanes share: the site, the door, the file that tells them to stop, the one that lets the
-/// folder be loaded anew, how often it is looked at, what they count, and what tells the watch that
-/// they have ended.
+/// folder be loaded anew, how often it is looked at, whether they stop where the log can't be
+/// written, what they count, and what tells the watch that they have ended.
 #[derive(Drop)]
 struct House {
     shelf: Shelf,
@@ -153,6 +190,7 @@ struct House {
     stop: Option<StopFile>,
     reload: Option<ReloadFile>,
     look: u64,
+    stops_unlogged: bool,
     common: Common,
     curfew: Curfew,
 }
@@ -176,6 +214,8 @@ impl House {
             hidden: order.hidden,
             answers: order.answers,
             input: order.input,
+            max_files: order.max_files,
+            max_bytes: order.max_bytes,
             added: order.added,
         };
         let shelf = Shelf::new(rt, origin, &mut notes);
@@ -189,6 +229,7 @@ impl House {
             stop: order.stop_file.map(StopFile::new),
             reload,
             look: order.look,
+            stops_unlogged: order.log_fault == LogFault::Stop,
             common: Common::new(order.lanes, order.accepting),
             curfew: Curfew::new(),
         })
@@ -196,12 +237,12 @@ impl House {
 
     /// What worlds need to know, of which each takes connections for so many seconds, and cuts
     /// those that are left after so many more.
-    fn entrance<'d>(&'d self, listener: &'d TcpListener, age: u64, grace: u64) -> Entrance<'d> {
+    fn entrance<'d>(&'d self, listeners: &'d [TcpListener], age: u64, grace: u64) -> Entrance<'d> {
         let stop = self.stop.as_ref();
         let (age, grace) = (age.saturating_mul(1000), grace.saturating_mul(1000));
         Entrance {
             door: &self.door,
-            listener,
+            listeners,
             stop,
             age,
             grace,
@@ -222,6 +263,7 @@ fn jobs_of<'d, T: Wait + Clock>(
     voice: &Voice<'d, T>,
     lanes: u16,
     terms: Terms,
+    desk: LogDesk<'d, T>,
 ) -> Result<Vec<Job<'d, T>>, ServeFault>
     requires { AreTerms terms }
 {
@@ -238,7 +280,7 @@ fn jobs_of<'d, T: Wait + Clock>(
             &house.common,
         )?;
         let lane = Lane::new(LaneWorld::new(rt, entrance, number)?, keeper);
-        if jobs.push(Job { lane, terms }).is_err() {
+        if jobs.push(Job { lane, terms, desk }).is_err() {
             return Err(ServeFault::Memory);
         }
     }
@@ -266,8 +308,10 @@ fn run_house<'d, T: AllocGlobal + Threads + Wait + Sync + Clock>(
 ) {
     let (stop, reload) = (house.stop.as_ref(), house.reload.as_ref());
     let (shelf, door, common) = (&house.shelf, &house.door, &house.common);
-    let (look, voice) = (house.look, voice.again());
-    let watch = Watch::new(rt, threads, shelf, door, stop, reload, look, common, voice);
+    let (look, stops, voice) = (house.look, house.stops_unlogged, voice.again());
+    let watch = Watch::new(
+        rt, threads, shelf, door, stop, reload, look, stops, common, voice,
+    );
     let curfew = &house.curfew;
     thread::join(
         threads,
@@ -276,7 +320,22 @@ fn run_house<'d, T: AllocGlobal + Threads + Wait + Sync + Clock>(
     );
 }
 
-/// Serves the folder of the order at this listener. What is said is left in the outbox.
+/// Where they listen, none of which blocks from now on.
+fn addresses_of(
+    rt: &HostRuntime,
+    listeners: &[TcpListener],
+) -> Result<Vec<SocketAddr>, ServeFault> {
+    let mut addresses = Vec::new(rt.alloc());
+    for listener in listeners {
+        listener.set_nonblocking(true)?;
+        if addresses.push(listener.local_addr()?).is_err() {
+            return Err(ServeFault::Memory);
+        }
+    }
+    Ok(addresses)
+}
+
+/// Serves the folder of the order at these listeners. What is said is left in the outbox.
 ///
 /// # Errors
 ///
@@ -285,19 +344,24 @@ pub fn serve_at<'x, T: AllocGlobal + Threads + Wait + Sync + Clock>(
     rt: &'x HostRuntime,
     threads: &'x T,
     order: Order,
-    listener: &'x TcpListener,
+    listeners: &'x [TcpListener],
     outbox: &'x Outbox,
 ) -> Result<Served, ServeFault> {
-    listener.set_nonblocking(true)?;
-    let address = listener.local_addr()?;
+    let addresses = addresses_of(rt, listeners)?;
     let terms = terms_of(&order);
     let voice = Voice::new(threads, outbox, order.quiet);
+    let desk = LogDesk {
+        rt,
+        threads,
+        outbox,
+        format: order.log.unwrap_or(LogFormat::Combined),
+    };
     let (lanes, accepting) = (order.lanes, order.accepting);
     let (age, grace) = (order.age, order.grace);
     let house = House::new(rt, order, &voice)?;
-    let entrance = house.entrance(listener, age, grace);
-    let mut jobs = jobs_of(rt, threads, &house, entrance, &voice, lanes, terms)?;
-    voice.tell_of_start(address, lanes, accepting, terms.shape.cores);
+    let entrance = house.entrance(listeners, age, grace);
+    let mut jobs = jobs_of(rt, threads, &house, entrance, &voice, lanes, terms, desk)?;
+    voice.tell_of_start(&addresses, lanes, accepting, terms.shape.cores);
     run_house(rt, threads, &house, &voice, jobs.as_mut_slice());
     Ok(Served {
         totals: sum_up(&jobs),

@@ -74,6 +74,9 @@ pub struct Watch<'d, T: Wait> {
     common: &'d Common,
     voice: Voice<'d, T>,
 
+    /// Whether all are to stop where the log can't be written.
+    stops_unlogged: bool,
+
     /// What the reload file looked like when it was seen last.
     seen: Option<FileMark>,
 
@@ -101,6 +104,7 @@ impl<'d, T: Wait + Clock> Watch<'d, T> {
         stop: Option<&'d StopFile>,
         reload: Option<&'d ReloadFile>,
         seconds: u64,
+        stops_unlogged: bool,
         common: &'d Common,
         voice: Voice<'d, T>,
     ) -> Watch<'d, T> {
@@ -117,6 +121,7 @@ impl<'d, T: Wait + Clock> Watch<'d, T> {
             reload,
             common,
             voice,
+            stops_unlogged,
             seen,
             is_asked: false,
             rounds: rounds_of(seconds),
@@ -133,6 +138,7 @@ impl<'d, T: Wait + Clock> Watch<'d, T> {
                 return;
             }
             watch.look_for_stop();
+            watch.look_for_refusal();
             watch.look_for_reload();
             if watch.rounds.tick() {
                 let is_open = watch.look();
@@ -147,6 +153,14 @@ impl<'d, T: Wait + Clock> Watch<'d, T> {
             if stop.is_there(self.rt) {
                 self.door.close();
             }
+        }
+    }
+
+    /// Closes the door where the log can't be written and all are to stop for that.
+    fn look_for_refusal(&self) {
+        if self.stops_unlogged && !self.door.is_closed() && self.voice.has_refused() {
+            self.common.end_unlogged();
+            self.door.close();
         }
     }
 

@@ -8,8 +8,8 @@ use std::os::unix::fs::MetadataExt;
 /// How many folders deep a folder may lie.
 const MAX_DEPTH: usize = 32;
 
-/// How many entries are looked at at most.
-const MOST: u32 = 1_000_000;
+/// How many entries are looked at at most: more than any site has, with its folders.
+const MOST: u32 = 10_000_000;
 
 /// Lists a folder; nothing where the program has no right to it.
 fn list(rt: &HostRuntime, folder: &DirEntry) -> io::Result<Option<ReadDir>> {

@@ -52,4 +52,4 @@ reply_of place selector = reply_to place (without_first_slash selector)
 
 -- no answer has more bytes
 abbrev pub text_limit : ℕ
-text_limit = 540000000
+text_limit = 17200000000

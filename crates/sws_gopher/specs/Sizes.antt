@@ -234,7 +234,7 @@ lines-within place folder (item ∷ items) host port path names =
 
 -- the menu of a folder whose path is as short as the names of files
 menu-short : (place : Place) (folder : List ℕ) → IsHall place → length folder ≤ 1025
-    → length (menu_of place folder) ≤ line_limit * 4096 + 3
+    → length (menu_of place folder) ≤ line_limit * 1048576 + 3
 unfolding menu_of
 menu-short place folder hall path =
     let few = items-few place.files folder hall.limits.names in

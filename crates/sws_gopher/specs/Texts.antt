@@ -24,6 +24,7 @@ text_line line = dotted (without_last 13 line) ++ line_end
 abbrev pub last_line : List ℕ
 last_line = 46 ∷ line_end
 
--- the text of these contents
+-- the text of these contents: line by line, each with one more full stop in front where it begins
+-- with one, and behind them the line of one full stop
 unfoldable pub text_of : List ℕ → List ℕ
 text_of contents = flat_map text_line (lines_of contents) ++ last_line

@@ -172,7 +172,10 @@ module _ {L : Type 0} (kept : Option (List LogLine)) (served : List (Served L)) 
     pub before : AreWhole conn
 
   -- the verdict over what is shown: whether all was run, how many links there are, whether the
-  -- world is there, how many links it gave and whether it failed
+  -- world is there, how many links it gave and whether it failed. Where not all was run, or a
+  -- connection met want of memory, it is that; else the first connection that lacks its link or its
+  -- end, met a stray event, or whose lines of the log aren't numbered 1 to as many as it gave, or
+  -- the number of all where the world is gone; else whether the world failed
   abbrev pub VerdictIs : Bool → ℕ → Bool → ℕ → Bool → Verdict → Type 0
   VerdictIs whole total there accepted failed verdict.Ok = IsJudged served whole × (there ≡ true)
       × (failed ≡ false) × AreWhole (links_owed failed accepted total)

@@ -34,7 +34,7 @@ calls_more : (calls : Option (List KeeperCall)) (xs ys : List KeeperCall)
 calls_more None xs ys = refl
 calls_more (Some all) xs ys = ap Some (append_assoc all xs ys)
 
-module _ {W L T U G : Type 0} (x : WorldWords W L) (l : LinkWords L) (y : TalkWords T L G SiteState) (z : TalkWords U L G SiteState) (terms : Terms) where
+module _ {W L T U G H : Type 0} (x : WorldWords W L) (l : LinkWords L) (y : TalkWords T L G SiteState) (z : TalkWords U L H SiteState) (terms : Terms) where
   generations_more : (first : Option W) (xs ys : List (Generation W L)) (between last : Option W) → AreGenerations x l y z terms first xs between
       → AreGenerations x l y z terms between ys last → AreGenerations x l y z terms first (xs ++ ys) last
   generations_more first [] ys between last h k = subst (λ w. AreGenerations x l y z terms w ys last) h k
@@ -45,19 +45,19 @@ module _ {W L T U G : Type 0} (x : WorldWords W L) (l : LinkWords L) (y : TalkWo
   -- ---- one
 
   -- a run with the log, and one without
-  pub run_logged : (site : SiteState) (first : W) (ended : Ended W L) → terms.log ≡ true → IsRunOf x l y terms true site first ended
+  pub run_logged : (site : SiteState) (first : W) (ended : Ended W L) → terms.log ≡ true → IsRunOf x l y terms site first ended
       → IsRun x l y z terms site first ended
   run_logged site first ended log run = subst (λ kept. IsRunBy x l y z terms kept site first ended) (sym log) run
 
-  pub run_unlogged : (site : SiteState) (first : W) (ended : Ended W L) → terms.log ≡ false → IsRunOf x l z terms false site first ended
+  pub run_unlogged : (site : SiteState) (first : W) (ended : Ended W L) → terms.log ≡ false → IsRunOf x l z terms site first ended
       → IsRun x l y z terms site first ended
   run_unlogged site first ended log run = subst (λ kept. IsRunBy x l y z terms kept site first ended) (sym log) run
 
   pub leaves_unopened : (site : SiteState) (world first : W) (answer : Opened) (last : Option W) (report : Report)
       → Listens x.tells x.faults x.waits world terms.port terms.connections answer first → RunsBy x l y z terms answer site first None
-      → last ≡ Some first → report.opened ≡ answer → report.verdict ≡ None → report.totals ≡ no_totals → report.lines ≡ []
+      → last ≡ Some first → report.opened ≡ answer → report.verdict ≡ None → report.totals ≡ no_totals
       → LeavesBy x l y z terms site world last report
-  leaves_unopened site world first answer last report listens runs left opened verdict totals lines =
+  leaves_unopened site world first answer last report listens runs left opened verdict totals =
       let one : Generation W L = record { site = site; answer = answer; first = first; ended = None; told = report } in
       record {
         one = one;
@@ -69,7 +69,6 @@ module _ {W L T U G : Type 0} (x : WorldWords W L) (l : LinkWords L) (y : TalkWo
             opened = opened;
             verdict = verdict;
             totals = subst (λ (t : Totals). AreTotals no_totals (one ∷ []) t) (sym totals) (totals_of_none one refl);
-            lines = lines;
           };
         };
         left = left;
@@ -79,8 +78,8 @@ module _ {W L T U G : Type 0} (x : WorldWords W L) (l : LinkWords L) (y : TalkWo
   pub leaves_run : (site : SiteState) (world first : W) (ended : Ended W L) (last : Option W) (report : Report)
       → Listens x.tells x.faults x.waits world terms.port terms.connections opened.Ready first → IsRun x l y z terms site first ended
       → last ≡ ended.world → report.opened ≡ opened.Ready → report.verdict ≡ Some ended.verdict → AddsUp one_generation ended.served.items report.totals
-      → report.lines ≡ ended.log.items → LeavesBy x l y z terms site world last report
-  leaves_run site world first ended last report listens run left ready verdict adds lines =
+      → LeavesBy x l y z terms site world last report
+  leaves_run site world first ended last report listens run left ready verdict adds =
       let one : Generation W L = record { site = site; answer = opened.Ready; first = first; ended = Some ended; told = report } in
       record {
         one = one;
@@ -92,7 +91,6 @@ module _ {W L T U G : Type 0} (x : WorldWords W L) (l : LinkWords L) (y : TalkWo
             opened = ready;
             verdict = verdict;
             totals = totals_of_run one ended report.totals refl adds;
-            lines = lines;
           };
         };
         left = left;

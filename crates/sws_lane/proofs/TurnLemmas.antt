@@ -120,7 +120,7 @@ module _ {W L T G : Type 0} (x : WorldWords W L) (l : LinkWords L) (t : TalkWord
         let served = subst (λ (o : Option LinkContents). ServesTold (t.responses site) o (l.tells link) view) one.2 of_link.2.told in
         of_served i s link one.0 one.1 served.0 served.1 view left.end served.2
 
-module _ {W L T U G : Type 0} (x : WorldWords W L) (l : LinkWords L) (y : TalkWords T L G SiteState) (z : TalkWords U L G SiteState) (terms : Terms)
+module _ {W L T U G H : Type 0} (x : WorldWords W L) (l : LinkWords L) (y : TalkWords T L G SiteState) (z : TalkWords U L H SiteState) (terms : Terms)
     (law : (site : SiteState) (front bytes : List ℕ) → IsPrefix front bytes → IsPrefix (y.responses site front) (y.responses site bytes))
     (same : (site : SiteState) (bytes : List ℕ) → z.responses site bytes ≡ y.responses site bytes) where
   -- ---- a run of either kind
@@ -144,12 +144,12 @@ module _ {W L T U G : Type 0} (x : WorldWords W L) (l : LinkWords L) (y : TalkWo
   module _ (site : SiteState) (first : W) (ended : Ended W L) (coming : List Coming) (told : (x.tells first).coming ≡ Some coming) where
     left_as : (log : Bool) → IsRunBy x l y z terms log site first ended → (last : W) → ended.world ≡ Some last
         → (x.tells last).coming ≡ Some (drop ended.accepted coming)
-    left_as true run = left_run x l y terms.shape true law site first ended coming told run.leaves
+    left_as true run = left_run x l y terms.shape false law site first ended coming told run.leaves
     left_as false run = left_run x l z terms.shape false law_of_bursts site first ended coming told run.leaves
 
     conn_as : (log : Bool) → IsRunBy x l y z terms log site first ended → (i : ℕ) (s : Served L) (link : L) → slice_get ended.served.items i ≡ Some s
         → s.link ≡ Some link → IsServedInTurn x l y site coming i s link
-    conn_as true run i s link at linked = conn_run x l y terms.shape true law site first ended coming told run.leaves i s link at linked
+    conn_as true run i s link at linked = conn_run x l y terms.shape false law site first ended coming told run.leaves i s link at linked
     conn_as false run i s link at linked =
         of_bursts site coming i s link (conn_run x l z terms.shape false law_of_bursts site first ended coming told run.leaves i s link at linked)
 

@@ -7,7 +7,6 @@ use Rattle.sws_link.specs.declared.Link.{Ghosts as LinkWords}
 use Rattle.sws_link.specs.declared.Opened.{Opened}
 use Rattle.sws_link.specs.declared.Opened.TheVariants as opened
 use Rattle.sws_link.specs.declared.world.World.{Ghosts as WorldWords}
-use Rattle.sws_log.specs.declared.line.LogLine.{LogLine}
 use Rattle.sws_site.specs.Site.{SiteState}
 use Rattle.sws_steps.specs.declared.End.TheVariants as ending
 use Rattle.sws_steps.specs.declared.talk.Talk.{Ghosts as TalkWords}
@@ -41,11 +40,6 @@ abbrev pub served_by : {W L : Type 0} → Option (Ended W L) → List (Served L)
 served_by None = []
 served_by (Some ended) = ended.served.items
 
--- the lines of its log
-abbrev pub lines_by : {W L : Type 0} → Option (Ended W L) → List LogLine
-lines_by None = []
-lines_by (Some ended) = ended.log.items
-
 -- how many links the world gave in it
 abbrev pub accepted_by : {W L : Type 0} → Option (Ended W L) → ℕ
 accepted_by None = 0
@@ -78,31 +72,31 @@ pub record AreTotals {W L : Type 0} (before : Totals) (gs : List (Generation W L
       ≡ capped (before.written + sum_by (λ s. s.written) (all_served gs))
 
 -- what the keeper was told of a generation is what has come of it: how its world answered, how its
--- run was judged, its own totals, and the lines of its log
+-- run was judged, and its own totals
 pub record IsToldOf {W L : Type 0} (one : Generation W L) : Type 0 where
   pub opened : one.told.opened ≡ one.answer
   pub verdict : one.told.verdict ≡ option_map (λ run. run.verdict) one.ended
   pub totals : AreTotals no_totals (one ∷ []) one.told.totals
-  pub lines : one.told.lines ≡ lines_by one.ended
 
 -- ---- one generation
 
--- what is promised of a run by talks of this kind, with the log or without
+-- what is promised of a run of the server, over this world and out of this site, by talks of this
+-- kind; the run itself keeps no log
 pub record IsRunOf {W L T G : Type 0} (x : WorldWords W L) (l : LinkWords L)
-    (t : TalkWords T L G SiteState) (terms : Terms) (log : Bool) (site : SiteState) (first : W)
+    (t : TalkWords T L G SiteState) (terms : Terms) (site : SiteState) (first : W)
     (ended : Ended W L) : Type 0 where
-  pub leaves : ServerLeaves x l t terms.shape site first log ended
+  pub leaves : ServerLeaves x l t terms.shape site first false ended
   pub modelled : terms.shape.cores ≡ 1
-      → IsModelled x l t site terms.shape first log [] ended
+      → IsModelled x l t site terms.shape first false [] ended
 
--- here and below y is the talk by which a lane with the log serves, whose events end with their
--- first line, and z the one without
-module _ {W L T U G : Type 0} (x : WorldWords W L) (l : LinkWords L)
-    (y : TalkWords T L G SiteState) (z : TalkWords U L G SiteState) (terms : Terms) where
+-- here and below y is the talk by which a lane with the log serves, which tells its lines, and whose
+-- events end with their first line, and z the one without
+module _ {W L T U G H : Type 0} (x : WorldWords W L) (l : LinkWords L)
+    (y : TalkWords T L G SiteState) (z : TalkWords U L H SiteState) (terms : Terms) where
   -- what is promised of every run of the server, over this world and out of this site
   abbrev pub IsRunBy : Bool → SiteState → W → Ended W L → Type 0
-  IsRunBy true site first ended = IsRunOf x l y terms true site first ended
-  IsRunBy false site first ended = IsRunOf x l z terms false site first ended
+  IsRunBy true site first ended = IsRunOf x l y terms site first ended
+  IsRunBy false site first ended = IsRunOf x l z terms site first ended
 
   abbrev pub IsRun : SiteState → W → Ended W L → Type 0
   IsRun site first ended = IsRunBy terms.log site first ended

@@ -2,18 +2,16 @@
 use Rattle.std.specs.Prelude.{◌≡◌, Bool, true, false, List, [], ◌∷◌, ◌++◌, Option, option_map}
 use Rattle.sws_handlers.specs.declared.ended.Verdict.{Verdict}
 use Rattle.sws_link.specs.declared.Opened.{Opened}
-use Rattle.sws_log.specs.declared.line.LogLine.{LogLine}
 use Rattle.sws_site.specs.Site.{SiteState}
 use Rattle.sws_lane.specs.declared.keeper.Told.{Told}
 use Rattle.sws_lane.specs.declared.totals.Totals.{Totals}
 
 -- how a generation has ended: how its world answered when it was opened, how its run was judged,
--- where there was one, what has come of its connections, and the lines of its log
+-- where there was one, and what has come of its connections
 pub record Report : Type 0 where
   pub opened : Opened
   pub verdict : Option Verdict
   pub totals : Totals
-  pub lines : List LogLine
 
 -- what a keeper is told
 abbrev pub report_of : Told → Report
@@ -21,7 +19,6 @@ report_of told = record {
   opened = told.opened;
   verdict = told.verdict;
   totals = told.totals;
-  lines = told.lines.items;
 }
 
 -- a call of a keeper: a further generation began out of this site, it refused one, or it heard how

@@ -21,8 +21,8 @@ abbrev pub last_call : {W : Type 0} → Option W → List KeeperCall
 last_call None = []
 last_call (Some world) = call.Refused ∷ []
 
-module _ {W L T U G K : Type 0} (x : WorldWords W L) (l : LinkWords L)
-    (y : TalkWords T L G SiteState) (z : TalkWords U L G SiteState) (k : KeeperWords K)
+module _ {W L T U G H K : Type 0} (x : WorldWords W L) (l : LinkWords L)
+    (y : TalkWords T L G SiteState) (z : TalkWords U L H SiteState) (k : KeeperWords K)
     (terms : Terms) where
   -- generations were served one after another over the lane's world, with the totals their sums;
   -- the keeper was called in each of them, and then so

@@ -1,5 +1,5 @@
 //! One generation of a lane.
-ghost use Rattle.std.specs.Prelude.{◌≡◌, [], None, Some};
+ghost use Rattle.std.specs.Prelude.{◌≡◌, false, None, Some};
 ghost use Rattle.sws_weave.specs.Begins.{IsShapedFor};
 ghost use Rattle.sws_lane.specs.Generations.{IsRun, LeavesBy};
 ghost use Rattle.sws_lane.specs.Keepers.{report_of};
@@ -13,11 +13,16 @@ use mely_worker::OpenGate;
 use std::alloc::Global;
 use std::sync::Wait;
 use std::thread::Threads;
+use sws_access::{AccessConn, Clerk, Lent, Telling};
 use sws_burst::{Bursts, LoggedBursts};
 use sws_conn::{Conn, Talk};
 use sws_engine::{Ended, talk_all};
 use sws_link::{Opened, World};
 use sws_site::Site;
+
+/// A connection by which a lane with the log serves: it tells its lines to a clerk, and its events
+/// end with their first line.
+pub type ToldConn<'s, L, C> = LoggedBursts<Telling<AccessConn<'s, L>, C>, L>;
 
 /// What has come of a generation's run, and what it leaves of its world.
 fn told_of<W: World + Drop>(ended: Ended<W>) -> (Option<W>, Told)
@@ -25,7 +30,6 @@ fn told_of<W: World + Drop>(ended: Ended<W>) -> (Option<W>, Told)
     ensures opened { result.1.opened ≡ Opened.Ready }
     ensures verdict { result.1.verdict ≡ Some ended.verdict }
     ensures counted { AddsUp one_generation ended.served.items result.1.totals }
-    ensures lines { result.1.lines.items ≡ ended.log.items }
 {
     let Ended {
         verdict,
@@ -35,7 +39,7 @@ fn told_of<W: World + Drop>(ended: Ended<W>) -> (Option<W>, Told)
         served,
         histories: _,
         trails: _,
-        log,
+        log: _,
     } = ended;
     let mut totals = Totals::of_one();
     totals.count_all(&served);
@@ -43,24 +47,21 @@ fn told_of<W: World + Drop>(ended: Ended<W>) -> (Option<W>, Told)
         opened: Opened::Ready,
         verdict: Some(verdict),
         totals,
-        lines: log,
     };
     (world, told)
 }
 
 /// A generation that was not opened, since the world answered so.
-fn unopened<W: World + Drop>(alloc: Global, world: W, opened: Opened) -> (Option<W>, Told)
+fn unopened<W: World + Drop>(world: W, opened: Opened) -> (Option<W>, Told)
     ensures world { result.0 ≡ Some world }
     ensures opened { result.1.opened ≡ opened }
     ensures unjudged { result.1.verdict ≡ None }
     ensures nothing { result.1.totals ≡ no_totals }
-    ensures no_line { result.1.lines.items ≡ [] }
 {
     let told = Told {
         opened,
         verdict: None,
         totals: Totals::new(),
-        lines: Vec::new(alloc),
     };
     (Some(world), told)
 }
@@ -68,30 +69,32 @@ fn unopened<W: World + Drop>(alloc: Global, world: W, opened: Opened) -> (Option
 /// Serves the connections of a world that is open out of the site. It need not return.
 ///
 /// Each event of a connection is a burst of its steps. With the log a burst ends with its first
-/// line, as an event gives one at most.
-fn run_opened<R: Threads + Wait + Sync, W: World + Drop + Send>(
+/// line, and a connection tells its lines to a clerk of this desk; the run itself keeps none.
+fn run_opened<R: Threads + Wait + Sync, W: World + Drop + Send, C: Clerk<W::Link> + Drop + Send>(
     rt: &R,
     alloc: Global,
     terms: &Terms,
+    desk: C::Desk,
     site: &Site,
     world: W,
 ) -> Ended<W>
 where
     W::Link: Send,
-    requires { IsShapedFor W.World terms.now.shape world terms.now.log }
+    C::Desk: Send,
+    requires { IsShapedFor W.World terms.now.shape world false }
     ensures { IsRun W.World W.Link.Link
-        ⟦<LoggedBursts<Conn<'static, W::Link>, W::Link> as Talk<W::Link>>⟧
+        ⟦<ToldConn<'static, W::Link, C> as Talk<W::Link>>⟧
         ⟦<Bursts<Conn<'static, W::Link>> as Talk<W::Link>>⟧ terms.now site.now world result }
 {
     if terms.log {
-        talk_all::<R, W, LoggedBursts<Conn<'_, W::Link>, W::Link>, OpenGate>(
+        talk_all::<R, W, ToldConn<'_, W::Link, C>, OpenGate>(
             rt,
             alloc,
-            site,
+            Lent { hall: site, desk },
             &terms.shape,
             world,
             &OpenGate,
-            true,
+            false,
             false,
         )
     } else {
@@ -109,26 +112,25 @@ where
 }
 
 /// Opens the world and serves its connections out of the site. It need not return.
-pub fn serve_generation<R: Threads + Wait + Sync, W: World + Drop + Send>(
-    rt: &R,
-    alloc: Global,
-    terms: &Terms,
-    site: &Site,
-    world: W,
-) -> (Option<W>, Told)
+pub fn serve_generation<
+    R: Threads + Wait + Sync,
+    W: World + Drop + Send,
+    C: Clerk<W::Link> + Drop + Send,
+>(rt: &R, alloc: Global, terms: &Terms, desk: C::Desk, site: &Site, world: W) -> (Option<W>, Told)
 where
     W::Link: Send,
+    C::Desk: Send,
     requires { AreTerms terms.now }
     ensures { LeavesBy W.World W.Link.Link
-        ⟦<LoggedBursts<Conn<'static, W::Link>, W::Link> as Talk<W::Link>>⟧
+        ⟦<ToldConn<'static, W::Link, C> as Talk<W::Link>>⟧
         ⟦<Bursts<Conn<'static, W::Link>> as Talk<W::Link>>⟧ terms.now site.now world result.0
         (report_of result.1) }
 {
     let mut world = world;
     match world.open(terms.port, terms.connections) {
         Opened::Ready => {}
-        Opened::Failed => return unopened(alloc, world, Opened::Failed),
-        Opened::Memory => return unopened(alloc, world, Opened::Memory),
+        Opened::Failed => return unopened(world, Opened::Failed),
+        Opened::Memory => return unopened(world, Opened::Memory),
     }
-    told_of(run_opened(rt, alloc, terms, site, world))
+    told_of(run_opened::<R, W, C>(rt, alloc, terms, desk, site, world))
 }

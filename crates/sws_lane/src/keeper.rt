@@ -6,7 +6,6 @@ ghost use Rattle.sws_site.specs.Site.{SiteState};
 use crate::totals::Totals;
 use sws_engine::Verdict;
 use sws_link::Opened;
-use sws_log::LogLine;
 use sws_site::Site;
 
 /// How a generation has ended.
@@ -20,9 +19,6 @@ pub struct Told {
 
     /// What has come of its connections.
     pub totals: Totals,
-
-    /// The lines of its access log; none without one.
-    pub lines: Vec<LogLine>,
 }
 
 /// Says whether a further generation is to begin, and over which site, and hears how each ended.

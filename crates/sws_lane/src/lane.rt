@@ -17,7 +17,7 @@ pub struct Terms {
     pub connections: u16,
     pub shape: Shape,
 
-    /// Whether each generation keeps an access log.
+    /// Whether connections tell the lines of an access log.
     pub log: bool,
 }
 

@@ -13,7 +13,13 @@
 //! the lane a new one then:
 //!
 //! ```text
-//! keep_serving(threads, threads.alloc(), &job.terms, &mut job.lane);
+//! keep_serving::<T, LaneWorld<'_>, LaneKeeper<'_, T>, LineClerk<'_, T>>(
+//!     threads,
+//!     alloc,
+//!     &job.terms,
+//!     desk,
+//!     &mut job.lane,
+//! );
 //! if job.lane.world.is_some() {
 //!     return;
 //! }
@@ -27,6 +33,7 @@ mod lane;
 mod laws;
 mod totals;
 
+pub use generation::ToldConn;
 pub use keeper::{Keeper, Told};
 pub use keeping::keep_serving;
 pub use lane::{Lane, Terms};

@@ -20,6 +20,8 @@ const EOPNOTSUPP: i32 = 95;
 
 const EAFNOSUPPORT: i32 = 97;
 
+const EADDRINUSE: i32 = 98;
+
 const EADDRNOTAVAIL: i32 = 99;
 
 const ENOBUFS: i32 = 105;
@@ -42,6 +44,11 @@ pub fn has_no_room(error: &io::Error) -> bool {
 /// Whether the machine has no addresses of this kind, as one without IPv6.
 pub fn has_no_such_address(error: &io::Error) -> bool {
     matches!(error.raw_os_error(), Some(EAFNOSUPPORT | EADDRNOTAVAIL))
+}
+
+/// Whether somebody listens at the address already.
+pub fn is_in_use(error: &io::Error) -> bool {
+    error.raw_os_error() == Some(EADDRINUSE)
 }
 
 /// The errors that a listening socket hands on from a connection that broke before it was accepted

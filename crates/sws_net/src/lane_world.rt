@@ -1,4 +1,4 @@
-//! One of several worlds over a listener that all of them share.
+//! One of several worlds over listeners that all of them share.
 ghost use Rattle.std.specs.Prelude.{None, false, IfOk, IfSome, Contains};
 ghost use Rattle.sws_link.specs.Counts.{kept_count};
 ghost use Rattle.sws_net.specs.Initial.{IsInitialIfCame};
@@ -36,8 +36,9 @@ const STANDSTILL: u64 = 5000;
 pub struct Entrance<'d> {
     pub door: &'d Door,
 
-    /// What connections come from. It doesn't block. Once the door is closed, it is ended.
-    pub listener: &'d TcpListener,
+    /// What connections come from, at most [`LISTENERS`](crate::LISTENERS). They don't block. Once the
+    /// door is closed, they are ended.
+    pub listeners: &'d [TcpListener],
 
     /// The file that tells all to stop, where there is one.
     pub stop: Option<&'d StopFile>,
@@ -49,8 +50,8 @@ pub struct Entrance<'d> {
     pub grace: u64,
 }
 
-/// Gives the connections to a listener that others take connections from too, as links; of what
-/// they bring nothing is known.
+/// Gives the connections to listeners that others take connections from too, as links, of one
+/// listener and another in turn; of what they bring nothing is known.
 ///
 /// Whoever opens it has entered the door as its lane. The world leaves once it has given as many
 /// links as it was opened for, at the age of its [`Entrance`], and where the door is closed or
@@ -91,8 +92,8 @@ struct Stay<'d> {
     watched: u64,
     unmanned: Option<u64>,
 
-    /// Whether the listener was ended.
-    has_ended: bool,
+    /// How many of the listeners were ended.
+    ended: usize,
 }
 
 /// What is behind the door of a lane.
@@ -117,11 +118,14 @@ fn see_out(rt: &HostRuntime, mut server: Server) {
     server.see_out(rt);
 }
 
-/// A server over a listener, and the time.
-fn begin(rt: &HostRuntime, listener: &TcpListener, total: u16) -> io::Result<(Server, u64)> {
+/// A server over these listeners, and the time.
+fn begin(rt: &HostRuntime, listeners: &[TcpListener], total: u16) -> io::Result<(Server, u64)> {
     let now = time_of(rt)?;
-    let listener = net::TcpListener::from_std(listener.try_clone()?);
-    Ok((Server::over(rt, listener, total, true)?, now))
+    let mut server = Server::without_listener(rt, total, true)?;
+    for listener in listeners {
+        server.listen_at(net::TcpListener::from_std(listener.try_clone()?))?;
+    }
+    Ok((server, now))
 }
 
 impl<'d> Stay<'d> {
@@ -154,16 +158,19 @@ impl<'d> Stay<'d> {
             || now.saturating_sub(self.opened) >= self.entrance.age
     }
 
-    /// Ends the listener where the door is closed. Where the machine has no room for that, it is
+    /// Ends the listeners where the door is closed. Where the machine has no room for that, it is
     /// tried again.
     fn end_listening(&mut self) {
-        if self.has_ended || !self.entrance.door.is_closed() {
+        let listeners = self.entrance.listeners;
+        if self.ended >= listeners.len() || !self.entrance.door.is_closed() {
             return;
         }
-        self.has_ended = match end_listening(self.entrance.listener) {
-            Ok(()) => true,
-            Err(error) => !has_no_room(&error),
-        };
+        for listener in &listeners[self.ended..] {
+            match end_listening(listener) {
+                Err(error) if has_no_room(&error) => return,
+                _ => self.ended = self.ended.saturating_add(1),
+            }
+        }
     }
 
     /// How long the machine may be waited for: not at all where nobody is left.
@@ -256,7 +263,7 @@ impl<'d> Stay<'d> {
                 }
                 Came::Link(link)
             }
-            // The listener was ended just now.
+            // The listeners were ended just now.
             Came::Failed if self.entrance.door.is_closed() => Came::NotYet,
             came => came,
         }
@@ -279,7 +286,7 @@ impl<'d> LaneWorld<'d> {
                 left: None,
                 watched: 0,
                 unmanned: None,
-                has_ended: false,
+                ended: 0,
             },
             server: None,
         };
@@ -291,7 +298,7 @@ impl<'d> LaneWorld<'d> {
 
 impl<'d> Origin for Behind<'d> {
     fn begin(&mut self, _port: u16, total: u16) -> io::Result<()> {
-        let (mut server, now) = begin(self.stay.rt, self.stay.entrance.listener, total)?;
+        let (mut server, now) = begin(self.stay.rt, self.stay.entrance.listeners, total)?;
         if let Some(before) = &mut self.server {
             server.take_over(self.stay.rt, before);
         }

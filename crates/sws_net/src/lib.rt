@@ -7,7 +7,7 @@
 //! | Type | Is | Over |
 //! |---|---|---|
 //! | [`TcpWorld`] | a world | a socket that listens, and epoll |
-//! | [`LaneWorld`] | a world | the same, over a socket that worlds share behind a [`Door`] |
+//! | [`LaneWorld`] | a world | the same, over sockets that worlds share behind a [`Door`] |
 //! | [`TcpLink`] | a link | a socket, by a [`KeptLink`] |
 //!
 //! What a link keeps back of a response is proved over any [`Socket`] that tells what it carries,
@@ -35,6 +35,7 @@ mod kept_link;
 mod lane_world;
 mod leaving;
 mod listener;
+mod listeners;
 mod lobby;
 mod mem_socket;
 mod places;
@@ -52,6 +53,7 @@ pub use kept_link::KeptLink;
 pub use lane_world::{Entrance, LaneWorld};
 pub use listener::{listen, other_address};
 pub use mem_socket::MemSocket;
+pub use places::LISTENERS;
 pub use socket::Socket;
 pub use stop_file::StopFile;
 pub use tcp_link::TcpLink;

@@ -1,16 +1,17 @@
-//! The socket that listens, and all that waits.
+//! The sockets that listen, and all that waits.
 ghost use Rattle.std.specs.Prelude.{IfOk, IfSome, Contains};
 ghost use Rattle.sws_net.specs.Initial.{IsInitialTcpLink, IsInitialIfCame};
 
 use crate::departures::Departures;
 use crate::errors::{has_no_room, is_of_one_connection};
+use crate::listeners::Listeners;
 use crate::lobby::{Lobby, Way};
-use crate::places::{LISTENER, register};
+use crate::places::{LISTENERS, register};
 use crate::progress::Progress;
 use crate::signs::Signs;
 use crate::tcp_link::TcpLink;
 use mio::net::{TcpListener, TcpStream};
-use mio::{Events, Interest, Poll, Token};
+use mio::{Events, Poll, Token};
 use std::alloc::Global;
 use std::io::{self, ErrorKind};
 use std::net::{IpAddr, Ipv4Addr, SocketAddr};
@@ -42,7 +43,7 @@ pub enum Came {
     Failed,
 }
 
-/// The listener, the links' signs of life, and what waits for both.
+/// The listeners, the links' signs of life, and what waits for both.
 ///
 /// All sockets are registered once, for both directions and edge-triggered, so no event costs a
 /// further call of the system.
@@ -50,8 +51,8 @@ pub enum Came {
 pub struct Server {
     alloc: Global,
     poll: Poll,
-    /// What connections come from; nothing once no further one is to come.
-    listener: Option<TcpListener>,
+    /// What connections come from; none once no further one is to come.
+    listeners: Listeners,
     events: Events,
     lobby: Lobby,
     signs: Signs,
@@ -67,9 +68,6 @@ pub struct Server {
 
     /// How many connections were taken from the lobby's exit.
     taken: u64,
-
-    /// Whether a connection may be waiting to be accepted.
-    may_accept: bool,
 
     /// Whether the machine had no room for a connection, which is still waiting.
     is_to_retry: bool,
@@ -98,31 +96,25 @@ impl Server {
     /// answers.
     pub fn new(rt: &HostRuntime, port: u16, total: u16) -> io::Result<Server> {
         let address = SocketAddr::new(IpAddr::V4(Ipv4Addr::new(0, 0, 0, 0)), port);
-        Server::over(rt, TcpListener::bind(rt, address)?, total, false)
+        let mut server = Server::without_listener(rt, total, false)?;
+        server.listen_at(TcpListener::bind(rt, address)?)?;
+        Ok(server)
     }
 
-    /// Takes so many connections from this listener, which doesn't block and may have owners
-    /// beside this one. Their links hold answers or don't.
-    pub fn over(
-        rt: &HostRuntime,
-        listener: TcpListener,
-        total: u16,
-        holds: bool,
-    ) -> io::Result<Server> {
+    /// Of so many connections, which come from listeners that are still to be named. Their links hold
+    /// answers or don't.
+    pub fn without_listener(rt: &HostRuntime, total: u16, holds: bool) -> io::Result<Server> {
         let alloc = rt.alloc();
         let now = time_of(rt)?;
-        let mut listener = listener;
         let events = Events::with_capacity(alloc, EVENTS)?;
         let lobby = Lobby::new(alloc, total)?;
         let signs = Signs::new(alloc, total, now)?;
         let progress = Progress::new(alloc, total)?;
         let poll = Poll::new(rt)?;
-        poll.registry()
-            .register(&mut listener, Token(LISTENER), Interest::READABLE)?;
         Ok(Server {
             alloc,
             poll,
-            listener: Some(listener),
+            listeners: Listeners::new(alloc),
             events,
             lobby,
             signs,
@@ -131,7 +123,6 @@ impl Server {
             total,
             holds,
             taken: 0,
-            may_accept: true,
             is_to_retry: false,
             passed: 0,
             now,
@@ -140,12 +131,15 @@ impl Server {
         })
     }
 
-    /// Lets the listener go: no further connection comes. Its other owners keep it.
+    /// Takes connections from this listener too, which doesn't block and may have owners beside this
+    /// one.
+    pub fn listen_at(&mut self, listener: TcpListener) -> io::Result<()> {
+        self.listeners.add(self.poll.registry(), listener)
+    }
+
+    /// Lets the listeners go: no further connection comes. Their other owners keep them.
     pub fn stop_listening(&mut self) {
-        if let Some(mut listener) = self.listener.take() {
-            let _ = self.poll.registry().deregister(&mut listener);
-        }
-        self.may_accept = false;
+        self.listeners.let_go(self.poll.registry());
         self.is_to_retry = false;
     }
 
@@ -204,7 +198,7 @@ impl Server {
         if let Some(conn) = self.signs.take_ready(&self.lobby, waiting, self.now) {
             return Ok(Some(conn));
         }
-        if self.may_accept && !is_last {
+        if !is_last && self.listeners.may_accept() {
             return Ok(None);
         }
         let all_wait = waiting.len() as u64 >= self.there(accepted);
@@ -250,7 +244,7 @@ impl Server {
         }
         if self.is_to_retry {
             self.is_to_retry = false;
-            self.may_accept = true;
+            self.listeners.note_all(true);
         }
         Ok(())
     }
@@ -309,10 +303,10 @@ impl Server {
         for event in &self.events {
             is_nothing = false;
             let Token(place) = event.token();
-            if place == LISTENER {
-                self.may_accept = self.listener.is_some();
+            if place < LISTENERS {
+                self.listeners.note(place);
             } else {
-                let link = place - 1;
+                let link = place - LISTENERS;
                 let is_broken = event.is_error();
                 if event.is_readable() || event.is_read_closed() || is_broken {
                     self.signs.note(link, Way::Reading);
@@ -334,18 +328,13 @@ impl Server {
     pub fn next(&mut self, number: u16) -> Came
         ensures { IsInitialIfCame result }
     {
-        if !self.may_accept {
-            return Came::NotYet;
-        }
-        let Some(listener) = &self.listener else {
-            return Came::NotYet;
-        };
-        match listener.accept() {
-            Ok((stream, _)) => match self.admit(stream, number) {
+        match self.listeners.accept() {
+            None => Came::NotYet,
+            Some(Ok(stream)) => match self.admit(stream, number) {
                 Ok(link) => Came::Link(link),
                 Err(_) => Came::NotYet,
             },
-            Err(error) => self.none_came(&error),
+            Some(Err(error)) => self.none_came(&error),
         }
     }
 
@@ -355,11 +344,10 @@ impl Server {
         ensures { IsInitialIfCame result }
     {
         if error.kind() == ErrorKind::WouldBlock {
-            self.may_accept = false;
             return Came::NotYet;
         }
         if has_no_room(error) {
-            self.may_accept = false;
+            self.listeners.note_all(false);
             self.is_to_retry = true;
             return Came::NotYet;
         }

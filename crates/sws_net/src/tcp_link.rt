@@ -9,6 +9,7 @@ use crate::tcp_socket::TcpSocket;
 use mio::net::TcpStream;
 use std::alloc::Global;
 use std::io;
+use std::net::SocketAddr;
 use sws_link::{Link, LinkRead, LinkWrite};
 
 /// A link over a socket of the machine, of whose bytes nothing is known; it counts the machine's
@@ -35,6 +36,17 @@ impl TcpLink {
         Ok(TcpLink {
             kept: Box::new(alloc, link)?,
         })
+    }
+
+    /// The address of the peer, where the machine knows it and the link wasn't shut.
+    pub fn peer(&self) -> Option<SocketAddr> {
+        self.kept.socket().peer()
+    }
+
+    /// The number of the link among those that its world has given since it was opened, from 0,
+    /// unless it was shut.
+    pub fn number(&self) -> Option<u16> {
+        self.kept.socket().number()
     }
 }
 

@@ -7,6 +7,7 @@ use crate::lobby::{Presence, Way};
 use crate::socket::Socket;
 use mio::net::TcpStream;
 use std::io::{self, IoSlice, Read, Write};
+use std::net::SocketAddr;
 use sws_link::{LinkRead, LinkWrite};
 
 /// The machine's socket, and that it is there.
@@ -61,6 +62,22 @@ impl TcpSocket {
             open: Some(Open { stream, presence }),
             is_drained: false,
             has_ended: false,
+        }
+    }
+
+    /// The address of the peer, where the machine knows it and the connection wasn't ended.
+    pub fn peer(&self) -> Option<SocketAddr> {
+        match &self.open {
+            Some(open) => open.stream.peer_addr().ok(),
+            None => None,
+        }
+    }
+
+    /// The number of its link, unless the connection was ended.
+    pub fn number(&self) -> Option<u16> {
+        match &self.open {
+            Some(open) => Some(open.presence.number()),
+            None => None,
         }
     }
 }

@@ -14,8 +14,11 @@ const MOST_OUTPUT: usize = 32 * 1024 * 1024;
 
 const MOST_MESSAGES: usize = 1024 * 1024;
 
-/// For how many milliseconds the writer sleeps at most where nothing waits for it.
-const LONGEST: u64 = 1000;
+/// For how many milliseconds lines of a log wait at most, so that many are written at once.
+const LONGEST: u64 = 200;
+
+/// So many bytes of them are written at once.
+const MUCH: usize = 64 * 1024;
 
 /// Whole lines that wait for an output, and how many were dropped since the last of them were taken.
 #[derive(Drop)]
@@ -88,6 +91,13 @@ impl Queue {
         (bytes, dropped)
     }
 
+    /// How many bytes wait.
+    pub fn len(&self) -> usize
+        ensures { result ≡ length self.now.bytes.items }
+    {
+        self.bytes.len()
+    }
+
     /// Whether there is nothing to take.
     pub fn is_empty(&self) -> bool {
         self.bytes.is_empty() && self.dropped == 0
@@ -100,6 +110,9 @@ pub(crate) struct Waiting {
     pub output: Queue,
     pub messages: Queue,
     pub is_over: bool,
+
+    /// Whether the machine has ever refused to write to standard output.
+    pub has_refused: bool,
 }
 
 /// Lines for standard output and for standard error, which wait here until they are written.
@@ -126,6 +139,7 @@ impl Outbox {
                 output: Queue::new(alloc, MOST_OUTPUT),
                 messages: Queue::new(alloc, MOST_MESSAGES),
                 is_over: false,
+                has_refused: false,
             }),
             changed: Condvar::new(),
         }
@@ -140,6 +154,19 @@ impl Outbox {
     pub fn print<R: Wait>(&self, rt: &R, text: &[u8], lines: u64) -> bool {
         let is_kept = self.waiting.lock(rt).output.push(text, lines);
         self.changed.notify_all();
+        is_kept
+    }
+
+    /// Leaves a line of a log for standard output; false where it was dropped. It is written with
+    /// others, within a fifth of a second, or as soon as much waits.
+    pub fn log<R: Wait>(&self, rt: &R, line: &[u8]) -> bool {
+        let mut waiting = self.waiting.lock(rt);
+        let is_kept = waiting.output.push(line, 1);
+        let is_much = waiting.output.len() >= MUCH;
+        drop(waiting);
+        if is_much {
+            self.changed.notify_all();
+        }
         is_kept
     }
 
@@ -162,6 +189,13 @@ impl Outbox {
         self.changed.notify_all();
     }
 
+    /// Whether the machine has ever refused to write to standard output, as for want of room on a
+    /// disk.
+    pub fn has_refused<R: Wait>(&self, rt: &R) -> bool {
+        let waiting = self.waiting.lock(rt);
+        waiting.has_refused
+    }
+
     /// Nothing more is said: the writer ends once all is written.
     pub fn end<R: Wait>(&self, rt: &R) {
         self.waiting.lock(rt).is_over = true;
@@ -182,10 +216,11 @@ impl Outbox {
         self.waiting.lock(rt)
     }
 
-    /// Sleeps until something is there, or nothing more comes; or for a while.
+    /// Sleeps until a message is there, much waits for standard output, or nothing more comes; or for
+    /// a while.
     pub fn sleep<R: Wait + Clock>(&self, rt: &R) {
         let guard = self.waiting.lock(rt);
-        if guard.output.is_empty() && guard.messages.is_empty() && !guard.is_over {
+        if guard.output.len() < MUCH && guard.messages.is_empty() && !guard.is_over {
             let _ = self
                 .changed
                 .wait_timeout(rt, guard, Duration::from_millis(LONGEST));

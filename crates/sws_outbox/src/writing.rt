@@ -8,8 +8,8 @@ use libc::{EAGAIN, EINTR, STDERR_FILENO, STDOUT_FILENO};
 use std::alloc::Global;
 use std::rt::Clock;
 use std::sync::Wait;
-use std::thread;
 use std::time::Duration;
+use std::{io, thread};
 
 /// How many bytes are written at a time: as many as a pipe that is ready takes without waiting.
 const PIECE: usize = 4096;
@@ -41,8 +41,9 @@ struct Outlet {
     /// Whether the last line that was written is not whole.
     is_torn: bool,
 
-    /// Whether the machine refused what was written last, as where nobody reads any more.
-    is_broken: bool,
+    /// Why the machine refused what was written last, where it did, as where nobody reads any more:
+    /// the number of its error.
+    refusal: Option<i32>,
     ghost within: { written ≤ vec_len bytes },
 }
 
@@ -67,7 +68,7 @@ impl Outlet {
             lost: 0,
             idle: 0,
             is_torn: false,
-            is_broken: false,
+            refusal: None,
         }
     }
 
@@ -94,7 +95,7 @@ impl Outlet {
             lost: self.lost.saturating_add(dropped),
             idle: self.idle,
             is_torn: self.is_torn,
-            is_broken: self.is_broken,
+            refusal: self.refusal,
         };
     }
 
@@ -119,12 +120,13 @@ impl Outlet {
             self.written += (count as usize).min(left);
             self.idle = 0;
             self.is_torn = false;
-            self.is_broken = false;
+            self.refusal = None;
             return true;
         }
-        if count < 0 && !matches!(os::errno(), EAGAIN | EINTR) {
+        let error = os::errno();
+        if count < 0 && !matches!(error, EAGAIN | EINTR) {
             self.give_up();
-            self.is_broken = true;
+            self.refusal = Some(error);
             return true;
         }
         false
@@ -161,6 +163,9 @@ struct Writer {
 
     /// Whether nothing more is said.
     is_over: bool,
+
+    /// Whether it was said that standard output can't be written, since it last could.
+    is_refusal_told: bool,
 }
 
 impl Writer {
@@ -169,21 +174,38 @@ impl Writer {
             output: Outlet::new(alloc, STDOUT_FILENO),
             messages: Outlet::new(alloc, STDERR_FILENO),
             is_over: false,
+            is_refusal_told: false,
         }
     }
 
-    /// Takes what waits for an output to which all was written, and says how many lines were
-    /// dropped.
+    /// Says once that standard output can't be written, and why; and how many of its lines were
+    /// dropped, as soon as it can be written again or nothing more comes.
+    fn tell_of_output(&mut self, alloc: Global, waiting: &mut Waiting) {
+        match self.output.refusal {
+            Some(code) if !self.is_refusal_told => {
+                self.is_refusal_told = tell_of_refusal(alloc, waiting, code);
+            }
+            Some(_) => {}
+            None => self.is_refusal_told = false,
+        }
+        if self.output.refusal.is_none() || self.is_over {
+            tell_of_loss(alloc, waiting, &mut self.output.lost, "lines of the log");
+        }
+    }
+
+    /// Takes what waits for an output to which all was written, and says what became of what was to
+    /// be written before.
     fn take(&mut self, alloc: Global, waiting: &mut Waiting) {
         self.is_over = waiting.is_over;
         if self.output.is_done() {
             let (bytes, dropped) = waiting.output.take(alloc);
             self.output.begin(bytes, dropped);
-            tell_of_loss(alloc, waiting, &mut self.output.lost, "lines of the log");
+            waiting.has_refused = waiting.has_refused || self.output.refusal.is_some();
+            self.tell_of_output(alloc, waiting);
         }
         if self.messages.is_done() {
             // Where nobody reads any more there is nobody to tell.
-            if !self.messages.is_broken {
+            if self.messages.refusal.is_none() {
                 tell_of_loss(
                     alloc,
                     waiting,
@@ -198,7 +220,7 @@ impl Writer {
 
     /// Whether all is written, and all that was lost is told of, where it can be told.
     fn is_done(&self) -> bool {
-        let is_told = self.messages.lost == 0 || self.messages.is_broken;
+        let is_told = self.messages.lost == 0 || self.messages.refusal.is_some();
         self.output.is_done() && self.messages.is_done() && is_told
     }
 
@@ -228,6 +250,16 @@ impl Writer {
             self.messages.give_up();
             self.messages.lost = 0;
         }
+    }
+}
+
+/// Says that standard output can't be written, since the machine answered with this error; false
+/// where there is no room for that yet.
+fn tell_of_refusal(alloc: Global, waiting: &mut Waiting, code: i32) -> bool {
+    let error = io::Error::from_raw_os_error(code);
+    match format!(in alloc; "[WARN  swsd] standard output can't be written: {error}\n") {
+        Ok(line) => waiting.messages.push(line.as_bytes(), 0),
+        Err(_) => false,
     }
 }
 

@@ -17,58 +17,24 @@
 
 ghost use Rattle.std.specs.Prelude.{◌≡◌, ◌≤◌, ℕ, List, [], ◌++◌, length, take, drop};
 ghost use Rattle.sws_parts.specs.Parts.{unsent_bytes, front_of, after_sending};
-ghost use Rattle.sws_parts.specs.Heads.{head_left, IsSentWithin};
 
 mod own_heads;
 
 pub use own_heads::{MAX_OWN_HEAD, OwnHead};
 use std::marker::Model;
 
-/// The head of a response: lent, as far as it wasn't sent, or its own, with the number
-/// of bytes that were sent.
-#[derive(Drop)]
-enum Head<'s> {
-    Lent(&'s [u8]),
-    Own(OwnHead, usize),
-}
-
-impl Head<'_> {
-    /// The bytes that are left.
-    fn left(&self) -> &[u8]
-        requires { IsSentWithin self.now }
-        ensures { result.now ≡ head_left self.now }
-    {
-        match self {
-            Head::Lent(head) => head,
-            Head::Own(head, sent) => &head.bytes()[*sent..],
-        }
-    }
-
-    /// Passes over the first `count` bytes that are left.
-    fn advance(&mut self, count: usize)
-        requires within { IsSentWithin self.old }
-        requires count { count ≤ length (head_left self.old) }
-        ensures within { IsSentWithin self.new }
-        ensures left { head_left self.new ≡ drop count (head_left self.old) }
-    {
-        match self {
-            Head::Lent(head) => *head = &head[count..],
-            Head::Own(head, sent) => {
-                // Read for contracts: by what its type keeps a head of its own is short,
-                // so the sum doesn't wrap.
-                let _short = head.bytes();
-                *sent += count;
-            }
-        }
-    }
-}
-
 /// What is left to send of a response: the rest of its head, then the rest of its body.
 ///
 /// What is lent is lent for `'s`, the life of what keeps it.
 #[derive(Drop)]
 pub struct Parts<'s> {
-    head: Head<'s>,
+    /// A lent head, as far as it wasn't sent.
+    head: &'s [u8],
+    /// Whether the response has a head of its own, in place of the lent one.
+    is_own: bool,
+    own: OwnHead,
+    /// How much of the head of its own was sent.
+    sent: usize,
     body: &'s [u8],
 }
 
@@ -81,7 +47,7 @@ impl<'s> Model for Parts<'s> {
 
     ghost view = { state_of };
 
-    ghost invariant = { λ parts. IsSentWithin parts.head };
+    ghost invariant = { IsSentWithin };
 }
 
 impl<'s> Parts<'s> {
@@ -90,7 +56,10 @@ impl<'s> Parts<'s> {
         ensures { result ≡ record { head = head.now; body = body.now } }
     {
         Parts {
-            head: Head::Lent(head),
+            head,
+            is_own: false,
+            own: OwnHead::new(),
+            sent: 0,
             body,
         }
     }
@@ -100,9 +69,42 @@ impl<'s> Parts<'s> {
         ensures { result ≡ record { head = head; body = body.now } }
     {
         Parts {
-            head: Head::Own(head, 0),
+            head: b"",
+            is_own: true,
+            own: head,
+            sent: 0,
             body,
         }
+    }
+
+    /// Begins with another response, as [`Parts::new`], where this value lies: the room of a head of
+    /// its own is neither cleared nor moved.
+    pub fn lend(&mut self, head: &'s [u8], body: &'s [u8])
+        ensures { self.new ≡ record { head = head.now; body = body.now } }
+    {
+        self.head = head;
+        self.is_own = false;
+        self.body = body;
+    }
+
+    /// Begins with another response, as [`Parts::with_own`], where this value lies.
+    pub fn own(&mut self, head: OwnHead, body: &'s [u8])
+        ensures { self.new ≡ record { head = head; body = body.now } }
+    {
+        self.is_own = true;
+        self.own = head;
+        self.sent = 0;
+        self.body = body;
+    }
+
+    /// The bytes that are left of the head.
+    fn left_head(&self) -> &[u8]
+        ensures { result.now ≡ self.now.head }
+    {
+        if self.is_own {
+            return &self.own.bytes()[self.sent..];
+        }
+        self.head
     }
 
     /// The bytes to be sent next: the rest of the head or, where that is
@@ -114,7 +116,7 @@ impl<'s> Parts<'s> {
         ensures begins { (rest : List ℕ) × (unsent_bytes self.now ≡ result.now ++ rest) }
         ensures empty { result.now ≡ [] → unsent_bytes self.now ≡ [] }
     {
-        let head = self.head.left();
+        let head = self.left_head();
         if head.is_empty() {
             return self.body;
         }
@@ -131,17 +133,22 @@ impl<'s> Parts<'s> {
         ensures whole { take count (front_of self.old) ++ unsent_bytes self.new
             ≡ unsent_bytes self.old }
     {
-        if self.head.left().is_empty() {
+        if self.left_head().is_empty() {
             self.body = &self.body[count..];
-            return;
+        } else if self.is_own {
+            // Read for contracts: by what its type keeps a head of its own is short, so the sum
+            // doesn't wrap.
+            let _short = self.own.bytes();
+            self.sent += count;
+        } else {
+            self.head = &self.head[count..];
         }
-        self.head.advance(count);
     }
 
     /// How many bytes are left, of head and body together.
     pub fn left(&self) -> usize
         ensures { result ≡ length (unsent_bytes self.now) }
     {
-        self.head.left().len() + self.body.len()
+        self.left_head().len() + self.body.len()
     }
 }

@@ -15,7 +15,7 @@ use Rattle.sws_link.specs.Limits.{conn_limit}
 abbrev pub SpellLines : Bool → List (List ℕ) → Input → Type 0
 SpellLines schedule lines input = AllZip SpellsLine lines (input_lines schedule input)
 
--- the text is one of the input
+-- the lines of the text spell those of the input, one by one, and the text is within the limit
 pub record Spells (schedule : Bool) (cores : ℕ) (text : List ℕ) (input : Input) : Type 0 where
   pub is : IsInput schedule cores input
   pub lines : SpellLines schedule (lines_of text) input
@@ -41,8 +41,8 @@ pub record MayStand (schedule : Bool) (cores : ℕ) (text : List ℕ) (count : �
   pub begin : Begin schedule cores (take count (lines_of text))
   pub within : min (length text) (size_of (take count (lines_of text))) ≤ byte_limit
 
--- so many lines may stand, and with the next one they may not; where there is
--- none, they are no whole input
+-- the first line with which the lines so far may not stand: so many may, and with the next one they
+-- may not; or it is the one behind the last, where the lines are no whole input
 pub record IsFirstOutside (schedule : Bool) (cores : ℕ) (text : List ℕ) (before : ℕ) : Type 0 where
   pub stand : MayStand schedule cores text before
   pub next : before < length (lines_of text) → MayStand schedule cores text (before + 1) → ⊥

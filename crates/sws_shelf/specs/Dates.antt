@@ -5,6 +5,7 @@ use Rattle.std.specs.Arc.{arc_value}
 use Rattle.std.specs.Duration.{as_nanos}
 use Rattle.std.specs.declared.time.Duration.{Duration}
 use Rattle.httpdate.specs.Date.{unix_secs}
+use Rattle.sws_site.specs.Limits.{IsWithinOptions}
 use Rattle.sws_site.specs.Site.{SiteState}
 use Rattle.sws_shelf.specs.Sites.{site_options}
 use Rattle.sws_shelf.specs.declared.shelf.Loaded.{Loaded}
@@ -37,8 +38,9 @@ latest before None = before
 latest before (Some date) = Some date
 
 -- the site has the date that is kept beside it, and none that isn't later than the one before, and
--- the options of its origin
+-- the options of its origin, and is within their limits
 pub record IsLoaded (before : Option ℕ) (origin : Origin) (loaded : Loaded) : Type 0 where
   pub dated : date_of (arc_value loaded.site) ≡ loaded.date
   pub later : IfSome loaded.date (IsLater before)
   pub options : (arc_value loaded.site).options ≡ site_options origin
+  pub within : IsWithinOptions (site_options origin) (arc_value loaded.site).files

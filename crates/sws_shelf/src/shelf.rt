@@ -1,6 +1,7 @@
 //! The site that generations begin with.
 ghost use Rattle.std.specs.Arc.{arc_value};
 ghost use Rattle.std.specs.Prelude.{◌≡◌, ◌≤◌, None, IfOk, IfSome, OnErr};
+ghost use Rattle.sws_site.specs.Limits.{IsWithinOptions};
 ghost use Rattle.sws_site.specs.Site.{last_second};
 ghost use Rattle.sws_shelf.specs.Dates.{date_of, latest, IsLater, IsLoaded};
 ghost use Rattle.sws_shelf.specs.Sites.{site_options};
@@ -21,10 +22,10 @@ pub enum LoadFault {
     /// The folder, or a file in it, can't be opened or read.
     Folder,
 
-    /// It has so many files that this one is more than a site holds.
+    /// It has so many files that this one is more than the site holds.
     TooManyFiles { count: u32 },
 
-    /// With this file, counted from 1, it has more bytes than a site holds.
+    /// With this file, counted from 1, it has more bytes than the site holds.
     TooManyBytes { number: u32 },
 
     /// This file, counted from 1, has a longer name than a site holds.
@@ -56,15 +57,13 @@ impl fmt::Display for LoadFault {
     fn fmt<W: fmt::Write>(&self, f: &mut fmt::Formatter<W>) -> fmt::Result {
         match self {
             LoadFault::Folder => write!(f, "the folder can't be read"),
-            LoadFault::TooManyFiles { count } => {
-                write!(
-                    f,
-                    "the folder has {count} files or more; a site has 4,096 at most"
-                )
-            }
+            LoadFault::TooManyFiles { count } => write!(
+                f,
+                "the folder has {count} files or more, and --files allows one less"
+            ),
             LoadFault::TooManyBytes { number } => write!(
                 f,
-                "with file {number} the folder has more than 256 MiB, the most that a site holds"
+                "with file {number} the folder has more bytes than --bytes allows"
             ),
             LoadFault::LongName { number } => {
                 write!(f, "the name of file {number} has more than 1,024 bytes")
@@ -87,7 +86,8 @@ impl LoadFault {
     }
 }
 
-/// Where a site comes from, how much of a connection it serves, and what is added to it.
+/// Where a site comes from, how much it holds, how much of a connection it serves, and what is added
+/// to it.
 #[derive(Drop)]
 pub struct Origin {
     /// The path of the folder.
@@ -102,6 +102,12 @@ pub struct Origin {
     /// How many bytes of a connection count, 1 to 4,294,967,295.
     pub input: u32,
 
+    /// How many files the site holds at most, 1 to 1,048,576.
+    pub max_files: u32,
+
+    /// How many bytes they have together at most, 1 to 8,589,934,592.
+    pub max_bytes: u64,
+
     /// What is added to its responses.
     pub added: Additions,
 }
@@ -115,7 +121,7 @@ fn mark_of(rt: &HostRuntime, origin: &Origin) -> Result<FolderMark, LoadFault> {
 }
 
 /// What a site of this server does beyond a plain one: all that it can, with what is added, and it
-/// serves as much of a connection as is asked for.
+/// holds as much, and serves as much of a connection, as is asked for.
 fn site_options(alloc: Global, origin: &Origin) -> Result<SiteOptions, AllocError>
     ensures { IfOk result (λ options. options ≡ site_options origin.now) }
 {
@@ -127,6 +133,8 @@ fn site_options(alloc: Global, origin: &Origin) -> Result<SiteOptions, AllocErro
         refuses_ambiguous: true,
         answers: origin.answers,
         input: origin.input,
+        max_files: origin.max_files,
+        max_bytes: origin.max_bytes,
         added: origin.added.copy(alloc)?,
     })
 }
@@ -143,6 +151,8 @@ fn load(
     ensures date { IfOk result (λ site. date_of (arc_value site) ≡ date) }
     ensures options { IfOk result (λ site. (arc_value site).options
         ≡ site_options origin.now) }
+    ensures within { IfOk result (λ site.
+        IsWithinOptions (site_options origin.now) (arc_value site).files) }
 {
     *notes = Notes::new(rt.alloc());
     let mut folder = FileFolder::lenient(rt, origin.hidden);
@@ -164,6 +174,8 @@ fn load_from(
     requires { IfSome date (λ secs. secs ≤ last_second) }
     ensures date { IfOk result (λ site. date_of site ≡ date) }
     ensures options { IfOk result (λ site. site.options ≡ site_options origin.now) }
+    ensures within { IfOk result (λ site.
+        IsWithinOptions (site_options origin.now) site.files) }
 {
     let options = site_options(rt.alloc(), origin)?;
     match folder.open(origin.path.as_str()) {
@@ -282,6 +294,8 @@ impl Marks {
             ≡ latest self.old.date (date_of (arc_value site))) }
         ensures options { IfOk result (λ site. (arc_value site).options
             ≡ site_options origin.now) }
+        ensures within { IfOk result (λ site.
+            IsWithinOptions (site_options origin.now) (arc_value site).files) }
         ensures refused { OnErr result (self.new.date ≡ self.old.date) }
     {
         wait_past(rt, self.date);

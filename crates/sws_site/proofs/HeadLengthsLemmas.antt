@@ -14,6 +14,7 @@ use Rattle.sws_site.specs.declared.statuses.Status.TheVariants.{Success, Partial
 use Rattle.sws_site.specs.declared.heads.ContentRange.{ContentRange}
 use Rattle.sws_site.specs.declared.heads.ContentRange.TheVariants.{Selected, NoSuch}
 use Rattle.sws_site.specs.Statuses.{row_of}
+use Rattle.sws_site.specs.Limits.{size_limit}
 use Rattle.sws_site.specs.declared.options.SiteOptions.{SiteOptions}
 use Rattle.sws_site.specs.ContentTypes.{media_types, text_types, data_types, image_types, audio_types, video_types, archive_types, document_types, program_types, type_in, type_or, more_type_or, extension_of, content_type, known_type_of, media_type_of}
 use Rattle.sws_site.specs.ResponseHeads.{ResponseHead, status_line, server_line, location_lines, connection_lines, date_lines, last_modified_lines, max_age_lines, cache_lines, allow_lines, content_range_lines, range_lines, media_type_and_len_lines, content_lines, head_lines, line_end, lines_text, head_text}
@@ -139,13 +140,13 @@ dates-short : (date : Option HttpDate) → length (lines_text (date_lines date))
 dates-short None = lit≤ tt
 dates-short (Some date) = date_line-short (date_text date) (date_text-short date)
 
--- the numbers of a range have at most 32 bits
+-- the numbers of a range are those of a file of a site
 abbrev pub IsShortRange : Option ContentRange → Type 0
 IsShortRange None = ⊤
-IsShortRange (Some (Selected first last len)) = (first < 2 ^ 32) × (last < 2 ^ 32) × (len < 2 ^ 32)
-IsShortRange (Some (NoSuch len)) = len < 2 ^ 32
+IsShortRange (Some (Selected first last len)) = (first ≤ size_limit) × (last ≤ size_limit) × (len ≤ size_limit)
+IsShortRange (Some (NoSuch len)) = len ≤ size_limit
 
-digits-short : (n : ℕ) → n < 2 ^ 32 → length (decimal n) ≤ 10
+digits-short : (n : ℕ) → n ≤ size_limit → length (decimal n) ≤ 10
 digits-short n small = length-decimal-le 10 n (lit< tt) (omega arith) (omega arith)
 
 range-short : (range : Option ContentRange) → IsShortRange range → length (lines_text (content_range_lines range)) ≤ 55
@@ -167,7 +168,7 @@ media_type_and_len-short media_type len short few =
 max_age-short : (max_age : Option ℕ) → ForSome max_age (λ seconds. seconds < 2 ^ 32) → length (lines_text (max_age_lines max_age)) ≤ 35
 max_age-short None short = lit≤ tt
 max_age-short (Some seconds) short =
-    let digits = digits-short seconds (short seconds refl) in simp length-append (omega (arith, digits))
+    let few = short seconds refl in let digits = digits-short seconds (omega arith) in simp length-append (omega (arith, digits))
 
 -- a head is as long as its groups of lines together, and the lines that the site adds
 pub length-head_text : (head : ResponseHead)

@@ -10,10 +10,11 @@ use Rattle.sws_link.specs.Folders.{Gives, TakesOfFile}
 use Rattle.sws_link.specs.declared.Got.{Got}
 use Rattle.sws_link.specs.declared.Got.TheVariants.{Took}
 use Rattle.sws_link.specs.declared.NextFile.TheVariants.{File as NextOne}
+use Rattle.sws_site.specs.declared.options.SiteOptions.{SiteOptions}
 use Rattle.sws_site.specs.declared.site_faults.SiteFault.{SiteFault}
 use Rattle.sws_site.specs.declared.site_faults.SiteFault.TheVariants.{TooManyFiles, LongName, TooManyBytes, Fault, Memory}
 use Rattle.sws_site.specs.Files.{File}
-use Rattle.sws_site.specs.Limits.{bytes_of, first_limit, limit_of, met_limit}
+use Rattle.sws_site.specs.Limits.{most_files, most_bytes, bytes_of, first_limit, limit_of, met_limit}
 use Rattle.sws_site.specs.Loading.{IsInitialFolder, Loads, IsSameFolder}
 use Rattle.sws_site.specs.Steps.{HasRead, HasReadMore, HasReadAll, StepsTo, StepFails, HasLoaded}
 use Rattle.sws_site.proofs.LimitLemmas.{met_limit-none, met_limit-files, met_limit-name, met_limit-bytes, length-push}
@@ -44,13 +45,14 @@ StepsTo-file len (Some before) (Some middle) after name kept contents file gives
 
 -- ---- all files
 
-pub HasLoaded-nil : (folder : Option FolderContents) (files : List File) → IsInitialFolder folder → files ≡ [] → HasLoaded folder folder files
-HasLoaded-nil None files initial none = refl
-HasLoaded-nil (Some before) files initial none = (
+pub HasLoaded-nil : (options : SiteOptions) (folder : Option FolderContents) (files : List File) → IsInitialFolder folder → files ≡ []
+    → HasLoaded options folder folder files
+HasLoaded-nil options None files initial none = refl
+HasLoaded-nil options (Some before) files initial none = (
   before.left,
   ap (λ n. Some (record before { given = n })) (initial ∙ ap length (sym none)),
   none ∙ ap (λ (f : List File). take (length f) before.files) (sym none),
-  ap (λ (f : List File). first_limit f (drop (length f) before.files)) (sym none),
+  ap (λ (f : List File). first_limit options f (drop (length f) before.files)) (sym none),
 )
 
 -- the file at a place begins the files from there
@@ -67,47 +69,63 @@ from_place files i file at = elim (slice_get_cases files i).1 [
 ]
 
 -- the next file decides, where it meets a limit
-next_decides : (first before : FolderContents) (files : List File) (file : File) (found : Option SiteFault) → HasLoaded (Some first) (Some before) files
-    → slice_get before.files before.given ≡ Some file → met_limit files file ≡ found
-    → limit_of first.files ≡ option_or found (first_limit (files ++ file ∷ []) (drop (length files + 1) first.files))
-next_decides first before files file found (left, now, is, limit) at met =
+next_decides : (options : SiteOptions) (first before : FolderContents) (files : List File) (file : File) (found : Option SiteFault)
+    → HasLoaded options (Some first) (Some before) files → slice_get before.files before.given ≡ Some file → met_limit options files file ≡ found
+    → limit_of options first.files ≡ option_or found (first_limit options (files ++ file ∷ []) (drop (length files + 1) first.files))
+next_decides options first before files file found (left, now, is, limit) at met =
     let same : before ≡ record first { given = length files; left = left } = cc in
     let place = from_place first.files (length files) file (subst (λ (t : FolderContents). slice_get t.files t.given ≡ Some file) same at) in
-    limit ∙ ap (first_limit files) place.0
-    ∙ ap (λ (f : Option SiteFault). option_or f (first_limit (files ++ file ∷ []) (drop (length files + 1) first.files))) met
+    limit ∙ ap (first_limit options files) place.0
+    ∙ ap (λ (f : Option SiteFault). option_or f (first_limit options (files ++ file ∷ []) (drop (length files + 1) first.files))) met
 
-pub HasLoaded-step : (first before after : Option FolderContents) (files : List File) (file : File) → HasLoaded first before files
-    → StepsTo before after (Some file) → length files + 1 ≤ 4096 → length file.0 ≤ 1024 → bytes_of files + length file.1 ≤ 268435456
-    → HasLoaded first after (files ++ file ∷ [])
-HasLoaded-step None None after files file loaded step few short fits = step
-HasLoaded-step None (Some before) after files file loaded step few short fits = cc
-HasLoaded-step (Some first) None after files file (left, now, is, limit) step few short fits = cc
-HasLoaded-step (Some first) (Some before) after files file (left, now, is, limit) (at, next) few short fits =
+pub HasLoaded-step : (options : SiteOptions) (first before after : Option FolderContents) (files : List File) (file : File)
+    → HasLoaded options first before files → StepsTo before after (Some file) → length files + 1 ≤ most_files options → length file.0 ≤ 1024
+    → bytes_of files + length file.1 ≤ most_bytes options → HasLoaded options first after (files ++ file ∷ [])
+HasLoaded-step options None None after files file loaded step few short fits = step
+HasLoaded-step options None (Some before) after files file loaded step few short fits = cc
+HasLoaded-step options (Some first) None after files file (left, now, is, limit) step few short fits = cc
+HasLoaded-step options (Some first) (Some before) after files file (left, now, is, limit) (at, next) few short fits =
     let same : before ≡ record first { given = length files; left = left } = cc in
     let place = from_place first.files (length files) file (subst (λ (t : FolderContents). slice_get t.files t.given ≡ Some file) same at) in
     let count : length (files ++ file ∷ []) ≡ length files + 1 = length-push files file in (
       [],
       next ∙ ap (λ (t : FolderContents). Some (record t { given = t.given + 1; left = [] })) same ∙ ap (λ n. Some (record first { given = n; left = [] })) (sym count),
       ap (λ (f : List File). f ++ file ∷ []) is ∙ sym place.1 ∙ ap (λ n. take n first.files) (sym count),
-      next_decides first before files file None (left, now, is, limit) at (met_limit-none files file few short fits)
-          ∙ ap (λ n. first_limit (files ++ file ∷ []) (drop n first.files)) (sym count),
+      next_decides options first before files file None (left, now, is, limit) at (met_limit-none options files file few short fits)
+          ∙ ap (λ n. first_limit options (files ++ file ∷ []) (drop n first.files)) (sym count),
     )
 
-pub HasLoaded-fails : (first before : Option FolderContents) (files : List File) (number room : ℕ) (fault : SiteFault) → HasLoaded first before files
-    → StepFails number room before fault → number ≡ length files + 1 → bytes_of files + room ≡ 268435456 → Loads first (Err fault)
-HasLoaded-fails None before files number room _ loaded fails n all = tt
-HasLoaded-fails (Some first) None files number room _ (left, now, is, limit) fails n all = cc
-HasLoaded-fails (Some first) (Some before) files number room (TooManyFiles found) loaded (is_found, file, at, many) n all =
-    next_decides first before files file (Some (TooManyFiles (length files + 1))) loaded at (met_limit-files files file (omega arith))
+-- a number that is another one is where that is
+over-as : (number other most : ℕ) → number ≡ other → most < number → most < other
+over-as number other most same over = omega arith
+
+within-as : (number other most : ℕ) → number ≡ other → number ≤ most → other ≤ most
+within-as number other most same within = omega arith
+
+-- what is more than is left is more than all with what there is
+over-all : (before left all file : ℕ) → before + left ≡ all → left < file → all < before + file
+over-all before left all file whole over = omega arith
+
+pub HasLoaded-fails : (options : SiteOptions) (first before : Option FolderContents) (files : List File) (number room : ℕ) (fault : SiteFault)
+    → HasLoaded options first before files → StepFails options number room before fault → number ≡ length files + 1
+    → bytes_of files + room ≡ most_bytes options → Loads options first (Err fault)
+HasLoaded-fails options None before files number room _ loaded fails n all = tt
+HasLoaded-fails options (Some first) None files number room _ (left, now, is, limit) fails n all = cc
+HasLoaded-fails options (Some first) (Some before) files number room (TooManyFiles found) loaded (is_found, file, at, many) n all =
+    next_decides options first before files file (Some (TooManyFiles (length files + 1))) loaded at
+    (met_limit-files options files file (over-as number (length files + 1) (most_files options) n many))
     ∙ ap (λ k. Some (TooManyFiles k)) (sym (is_found ∙ n))
-HasLoaded-fails (Some first) (Some before) files number room (LongName found) loaded (is_found, file, at, few, long) n all =
-    next_decides first before files file (Some (LongName (length files + 1))) loaded at (met_limit-name files file (omega arith) long)
+HasLoaded-fails options (Some first) (Some before) files number room (LongName found) loaded (is_found, file, at, few, long) n all =
+    next_decides options first before files file (Some (LongName (length files + 1))) loaded at
+    (met_limit-name options files file (within-as number (length files + 1) (most_files options) n few) long)
     ∙ ap (λ k. Some (LongName k)) (sym (is_found ∙ n))
-HasLoaded-fails (Some first) (Some before) files number room (TooManyBytes found) loaded (is_found, file, at, few, short, over) n all =
-    next_decides first before files file (Some (TooManyBytes (length files + 1))) loaded at (met_limit-bytes files file (omega arith) short (omega arith))
+HasLoaded-fails options (Some first) (Some before) files number room (TooManyBytes found) loaded (is_found, file, at, few, short, over) n all =
+    next_decides options first before files file (Some (TooManyBytes (length files + 1))) loaded at
+    (met_limit-bytes options files file (within-as number (length files + 1) (most_files options) n few) short
+    (over-all (bytes_of files) room (most_bytes options) (length file.1) all over))
     ∙ ap (λ k. Some (TooManyBytes k)) (sym (is_found ∙ n))
-HasLoaded-fails (Some first) (Some before) files number room Fault loaded fails n all = tt
-HasLoaded-fails (Some first) (Some before) files number room Memory loaded fails n all = tt
+HasLoaded-fails options (Some first) (Some before) files number room Fault loaded fails n all = tt
+HasLoaded-fails options (Some first) (Some before) files number room Memory loaded fails n all = tt
 
 pub IsSameFolder-refl : (folder : Option FolderContents) → IsSameFolder folder folder
 IsSameFolder-refl None = refl

@@ -57,7 +57,9 @@ header_text name value = ((name ++ codes ": ") ++ value) ++ codes "\r\n"
 abbrev pub header_limit : ℕ
 header_limit = 1024
 
--- why a field can't be added to these lines, if it can't: the first of these causes that it has
+-- why a field can't be added to these lines, if it can't: the first of these causes that it has:
+-- its name is no token, its value isn't one of a field, the server answers for such a field itself,
+-- or there would be too many bytes of lines
 abbrev pub header_fault : List ℕ → List ℕ → List ℕ → Option HeaderFault
 header_fault before name value =
     if not (is_token name) then Some BadName

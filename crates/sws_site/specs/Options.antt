@@ -1,4 +1,5 @@
--- What a site does beyond sending its files, and how much of a connection it serves.
+-- What a site does beyond sending its files, how much it holds, and how much of a connection it
+-- serves.
 use Rattle.std.specs.Prelude.{◌^◌, ◌<◌, false, [], None}
 use Rattle.std.specs.Option.{ForSome}
 use Rattle.std.proofs.Common.{refl, lit≤}
@@ -20,7 +21,9 @@ nothing_added = record {
   short_age = no_age;
 }
 
--- nothing, and of a connection 64 requests are answered and 65,536 bytes count
+-- a site sends its files and does nothing beyond, and of a connection 64 requests are answered and
+-- 65,536 bytes count; it holds 4,096 files
+-- and 268,435,456 bytes
 abbrev pub plain_options : SiteOptions
 plain_options = record {
   removes_dot_segments = false;
@@ -30,5 +33,7 @@ plain_options = record {
   refuses_ambiguous = false;
   answers = 64;
   input = 65536;
+  max_files = 4096;
+  max_bytes = 268435456;
   added = nothing_added;
 }

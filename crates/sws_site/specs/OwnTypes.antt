@@ -45,7 +45,8 @@ type_limit = 80
 abbrev pub are_short_types : List (List ℕ × List ℕ) → Bool
 are_short_types rows = list_all (λ row. nat_le (length row.1) type_limit) rows
 
--- why a type can't be added, if it can't: the first of these causes that it has
+-- why a type can't be added, if it can't: its extension isn't letters and digits alone, or it is no
+-- media type within the limit
 abbrev pub type_fault : List ℕ → List ℕ → Option TypeFault
 type_fault extension media_type =
     if not (is_extension extension) then Some BadExtension

@@ -7,7 +7,7 @@ use Rattle.sws_site.specs.declared.options.SiteOptions.{SiteOptions}
 use Rattle.sws_site.specs.Page.{PageState}
 
 -- the files in the folder's order, when the site was last modified, if that is known, and what the
--- site does beyond sending them
+-- site does beyond sending them and how much it holds
 pub record SiteState : Type 0 where
   pub files : List File
   pub date : Option HttpDate

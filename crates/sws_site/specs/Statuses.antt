@@ -33,7 +33,8 @@ plain_row code text = record {
   closes = false;
 }
 
--- the table
+-- the table: of each status its code and reason phrase, which lines its head has that not every
+-- head has, what its content is, and whether the connection ends with it
 abbrev pub row_of : Status → Row
 row_of Success = record (plain_row 200 (codes "200 OK")) { is_dated = true; body = WholeFile }
 row_of PartialContent = record (plain_row 206 (codes "206 Partial Content")) {

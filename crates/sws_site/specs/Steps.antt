@@ -3,10 +3,11 @@ use Rattle.std.specs.Prelude.{◌≡◌, ℕ, ◌+◌, ◌<◌, ◌≤◌, List,
 use Rattle.sws_link.specs.Told.{FolderContents}
 use Rattle.sws_link.specs.declared.Got.{Got}
 use Rattle.sws_link.specs.declared.Got.TheVariants.{Took, End, Failed}
+use Rattle.sws_site.specs.declared.options.SiteOptions.{SiteOptions}
 use Rattle.sws_site.specs.declared.site_faults.SiteFault.{SiteFault}
 use Rattle.sws_site.specs.declared.site_faults.SiteFault.TheVariants.{TooManyFiles, LongName, TooManyBytes, Fault, Memory}
 use Rattle.sws_site.specs.Files.{File}
-use Rattle.sws_site.specs.Limits.{file_limit, name_limit, first_limit, limit_of}
+use Rattle.sws_site.specs.Limits.{most_files, name_limit, first_limit, limit_of}
 
 -- these bytes of the current file were read
 abbrev pub HasRead : Option FolderContents → Option FolderContents → List ℕ → Type 0
@@ -46,33 +47,36 @@ StepsTo (Some before) now (Some file) =
     (slice_get before.files before.given ≡ Some file)
     × (now ≡ Some (record before { given = before.given + 1; left = [] }))
 
--- a file of this number is within the limits, where there is room for so many bytes
-pub record IsWithin (number room : ℕ) (file : File) : Type 0 where
-  pub count : number ≤ file_limit
+-- a file of this number is within the limits of a site with these options, where there is room for
+-- so many bytes
+pub record IsWithin (options : SiteOptions) (number room : ℕ) (file : File) : Type 0 where
+  pub count : number ≤ most_files options
   pub name : length file.0 ≤ name_limit
   pub bytes : length file.1 ≤ room
 
--- the limit that the next file meets
-abbrev pub StepFails : ℕ → ℕ → Option FolderContents → SiteFault → Type 0
-StepFails number room None _ = ⊤
-StepFails number room (Some before) (TooManyFiles found) =
+-- the limit of a site with these options that the next file meets
+abbrev pub StepFails : SiteOptions → ℕ → ℕ → Option FolderContents → SiteFault → Type 0
+StepFails options number room None _ = ⊤
+StepFails options number room (Some before) (TooManyFiles found) =
     (found ≡ number) × (file : File) × (slice_get before.files before.given ≡ Some file)
-    × (file_limit < number)
-StepFails number room (Some before) (LongName found) =
+    × (most_files options < number)
+StepFails options number room (Some before) (LongName found) =
     (found ≡ number) × (file : File) × (slice_get before.files before.given ≡ Some file)
-    × (number ≤ file_limit) × (name_limit < length file.0)
-StepFails number room (Some before) (TooManyBytes found) =
+    × (number ≤ most_files options) × (name_limit < length file.0)
+StepFails options number room (Some before) (TooManyBytes found) =
     (found ≡ number) × (file : File) × (slice_get before.files before.given ≡ Some file)
-    × (number ≤ file_limit)
+    × (number ≤ most_files options)
     × (length file.0 ≤ name_limit) × (room < length file.1)
-StepFails number room (Some before) Fault = ⊤
-StepFails number room (Some before) Memory = ⊤
+StepFails options number room (Some before) Fault = ⊤
+StepFails options number room (Some before) Memory = ⊤
 
 -- the files so far are the first ones, and the first limit that all meet is that
 -- of the others beside them
-abbrev pub HasLoaded : Option FolderContents → Option FolderContents → List File → Type 0
-HasLoaded None now files = now ≡ None
-HasLoaded (Some before) now files =
+abbrev pub HasLoaded
+    : SiteOptions → Option FolderContents → Option FolderContents → List File → Type 0
+HasLoaded options None now files = now ≡ None
+HasLoaded options (Some before) now files =
     (left : List ℕ) × (now ≡ Some (record before { given = length files; left = left }))
     × (files ≡ take (length files) before.files)
-    × (limit_of before.files ≡ first_limit files (drop (length files) before.files))
+    × (limit_of options before.files
+    ≡ first_limit options files (drop (length files) before.files))

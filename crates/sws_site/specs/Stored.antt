@@ -40,9 +40,10 @@ abbrev pub AllHaveHeads : SiteOptions → Option HttpDate → List StoredFile �
 AllHaveHeads options date files = All (HasHeads options date) files
 
 -- `Loads` of the files as they are stored
-abbrev pub LoadsStored : Option FolderContents → Result (Vec StoredFile Global) SiteFault → Type 0
-LoadsStored folder (Ok files) = Loads folder (Ok (files_of files.items))
-LoadsStored folder (Err fault) = Loads folder (Err fault)
+abbrev pub LoadsStored
+    : SiteOptions → Option FolderContents → Result (Vec StoredFile Global) SiteFault → Type 0
+LoadsStored options folder (Ok files) = Loads options folder (Ok (files_of files.items))
+LoadsStored options folder (Err fault) = Loads options folder (Err fault)
 
 -- the place of the first file of the name, where the first of them has this place
 abbrev pub place_from : ℕ → List ℕ → List StoredFile → Option ℕ

@@ -2,7 +2,7 @@
 use Rattle.std.specs.Prelude.{◌≡◌, []}
 use Rattle.sws_site.specs.declared.statuses.Status.TheVariants.{NotModified}
 use Rattle.sws_site.specs.declared.sites.Site.TheInside.{Inside}
-use Rattle.sws_site.specs.Limits.{IsWithinLimits}
+use Rattle.sws_site.specs.Limits.{IsWithinOptions}
 use Rattle.sws_site.specs.Site.{SiteState}
 use Rattle.sws_site.specs.BuiltResponses.{IsBuilt}
 use Rattle.sws_site.specs.Fixed.{not_found_page}
@@ -19,7 +19,7 @@ state_of site = record {
 
 -- what a site keeps: its limits, the heads of its files, where each name is found, and its refusals
 pub record IsStored (site : Inside) : Type 0 where
-  pub limits : IsWithinLimits (files_of site.files.items)
+  pub limits : IsWithinOptions site.options (files_of site.files.items)
   pub heads : AllHaveHeads site.options site.date site.files.items
   pub places : FindsPlaces site.files.items site.places
   pub not_modified : IsBuilt site.options NotModified site.date [] site.not_modified

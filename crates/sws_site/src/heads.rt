@@ -18,16 +18,16 @@ pub enum ContentRange {
     /// The response has the bytes from the first to the last.
     Selected {
         /// The place of the first byte of the part.
-        first: u32,
+        first: u64,
         /// The place of its last byte.
-        last: u32,
+        last: u64,
         /// How many bytes the whole file has.
-        len: u32,
+        len: u64,
     },
     /// The file has no such bytes as the request asks for.
     NoSuch {
         /// How many bytes the whole file has.
-        len: u32,
+        len: u64,
     },
 }
 
@@ -118,15 +118,15 @@ fn put_range(head: &mut OwnHead, range: &ContentRange)
 {
     match range {
         ContentRange::Selected { first, last, len } => {
-            head.put_number(u64::from(*first));
+            head.put_number(*first);
             head.put(b"-");
-            head.put_number(u64::from(*last));
+            head.put_number(*last);
             head.put(b"/");
-            head.put_number(u64::from(*len));
+            head.put_number(*len);
         }
         ContentRange::NoSuch { len } => {
             head.put(b"*/");
-            head.put_number(u64::from(*len));
+            head.put_number(*len);
         }
     }
 }

@@ -1,14 +1,15 @@
 //! The files of a site, with the heads of the responses that send them.
 //!
-//! A site is loaded once from a [`Folder`](sws_link::Folder), within fixed limits: at most 4,096
-//! files, 268,435,456 bytes of contents, and names of 1,024 bytes. All that a response needs is
-//! built then: the two heads of each file, with and without `Connection: close`, those that say
+//! A site is loaded once from a [`Folder`](sws_link::Folder), within limits: names have at most 1,024
+//! bytes, and a plain site has at most 4,096 files and 268,435,456 bytes of contents, any other what
+//! its options say, up to 1,048,576 and 8,589,934,592. All that a response needs is built then: the two heads of each file, with and without `Connection: close`, those that say
 //! that a file was not modified, the responses that refuse, and those that redirect to folders. So a
 //! server answers out of a site without taking memory and without copying a byte: every head and
 //! every body is lent. The head of a response about a part of a file has numbers of the request in
 //! it: [`write_head`] writes it into a room of its own, and takes no memory either.
 //!
-//! [`SiteOptions`] say what a site does beyond a plain one, which [`Site::load`] makes. Among them
+//! [`SiteOptions`] say what a site does beyond a plain one, which [`Site::load`] makes, and how much
+//! it holds. Among them
 //! are [`Additions`]: header lines that stand in every head, media types, and for how long responses
 //! may be kept.
 //!

@@ -1,7 +1,7 @@
 //! Reading the files of a folder.
 ghost use Rattle.std.specs.Prelude.{◌≡◌, ◌<◌, ◌≤◌, IfOk, IfErr, OnErr, IfSome, IsTrue, Ok, Err, length, option_map};
 ghost use Rattle.sws_link.specs.Counts.{HasCause};
-ghost use Rattle.sws_site.specs.Limits.{size_limit, IsWithinLimits};
+ghost use Rattle.sws_site.specs.Limits.{size_limit, most_files, most_bytes, IsWithinOptions};
 ghost use Rattle.sws_site.specs.Loading.{IsInitialFolder, IsSameFolder};
 ghost use Rattle.sws_site.specs.Steps.{HasReadMore, HasReadAll, ReadFails, StepsTo, IsWithin, StepFails};
 ghost use Rattle.sws_site.specs.Stored.{file_of, files_of, HasHeads, AllHaveHeads, LoadsStored};
@@ -13,19 +13,33 @@ use httpdate::HttpDate;
 use std::alloc::{AllocError, Global};
 use sws_link::{Folder, Got, NextFile};
 
-/// The most files of a site.
-const MAX_FILES: u32 = 4096;
+/// The most files of any site.
+const MAX_FILES: u32 = 1_048_576;
 
 /// The most bytes of a file's name.
 const MAX_NAME: usize = 1024;
 
-/// The most bytes of all their contents.
-const MAX_BYTES: usize = 268435456;
+/// The most bytes of all contents of any site.
+const MAX_BYTES: u64 = 8_589_934_592;
 
 /// How many bytes of a file are asked for at first, and how many at most at a time.
 const FIRST_PIECE: usize = 4096;
 
 const MAX_PIECE: usize = 65536;
+
+/// The most files of a site with these options.
+fn most_files(options: &SiteOptions) -> u32
+    ensures { result ≡ most_files options.now }
+{
+    options.max_files.min(MAX_FILES)
+}
+
+/// The most bytes of all its contents.
+fn most_bytes(options: &SiteOptions) -> usize
+    ensures { result ≡ most_bytes options.now }
+{
+    options.max_bytes.min(MAX_BYTES) as usize
+}
 
 /// How many bytes more are asked for: what the buffer has spare, or else as many again as it holds.
 fn next_piece(filled: usize, spare: usize) -> usize
@@ -105,9 +119,9 @@ fn next_file<F: Folder>(
     ensures steps { IfOk result (λ file.
         StepsTo (F.tells folder.old) (F.tells folder.new) (option_map file_of file)) }
     ensures within { IfOk result (λ file.
-        IfSome file (λ file. IsWithin number room (file_of file))) }
+        IfSome file (λ file. IsWithin options.now number room (file_of file))) }
     ensures heads { IfOk result (λ file. IfSome file (HasHeads options.now date.now)) }
-    ensures fails { IfErr result (StepFails number room (F.tells folder.old)) }
+    ensures fails { IfErr result (StepFails options.now number room (F.tells folder.old)) }
     ensures same { IsSameFolder (F.tells folder.old) (F.tells folder.new) }
     ensures cause { HasCause (F.faults folder.old) (F.faults folder.new) (result
         ≡ Err SiteFault.Fault) }
@@ -119,7 +133,7 @@ fn next_file<F: Folder>(
         NextFile::Failed => return Err(SiteFault::Fault),
         NextFile::Memory => return Err(SiteFault::Memory),
     };
-    if number > MAX_FILES {
+    if number > most_files(options) {
         return Err(SiteFault::TooManyFiles { count: number });
     }
     if len > name.len() {
@@ -138,15 +152,15 @@ pub(crate) fn read_files<F: Folder>(
     date: &Option<HttpDate>,
 ) -> Result<Vec<StoredFile>, SiteFault>
     requires { IsInitialFolder (F.tells folder.old) }
-    ensures loads { LoadsStored (F.tells folder.old) result }
-    ensures limits { IfOk result (λ files. IsWithinLimits (files_of files.items)) }
+    ensures loads { LoadsStored options.now (F.tells folder.old) result }
+    ensures limits { IfOk result (λ files. IsWithinOptions options.now (files_of files.items)) }
     ensures heads { IfOk result (λ files. AllHaveHeads options.now date.now files.items) }
     ensures same { IsSameFolder (F.tells folder.old) (F.tells folder.new) }
     ensures cause { HasCause (F.faults folder.old) (F.faults folder.new) (result
         ≡ Err SiteFault.Fault) }
 {
     let mut files = Vec::new(alloc);
-    let mut room = MAX_BYTES;
+    let mut room = most_bytes(options);
     'files: loop {
         let number = files.len() as u32 + 1;
         match next_file(alloc, folder, options, date, number, room) {

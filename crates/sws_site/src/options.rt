@@ -1,15 +1,17 @@
-//! What a site does beyond sending its files, and how much of a connection it serves.
+//! What a site does beyond sending its files, how much it holds, and how much of a connection it
+//! serves.
 ghost use Rattle.std.specs.Prelude.{◌≡◌, IfOk};
 ghost use Rattle.sws_site.specs.Options.{plain_options};
 
 use crate::additions::Additions;
 use std::alloc::{AllocError, Global};
 
-/// What a site does beyond sending the files that are asked for by their names, and how much of a
-/// connection is served out of it.
+/// What a site does beyond sending the files that are asked for by their names, how much it holds,
+/// and how much of a connection is served out of it.
 ///
-/// A plain site, which [`Site::load`](crate::Site::load) makes, does none of these, and of each of
-/// its connections 65,536 bytes count and 64 requests are answered.
+/// A plain site, which [`Site::load`](crate::Site::load) makes, does none of these, holds 4,096
+/// files and 268,435,456 bytes of contents, and of each of its connections 65,536 bytes count and 64
+/// requests are answered.
 #[derive(Drop)]
 pub struct SiteOptions {
     /// The dot segments of a path are removed before its file is looked for (RFC 3986, section
@@ -32,6 +34,11 @@ pub struct SiteOptions {
     pub answers: u16,
     /// How many bytes of a connection count: 1 to 4,294,967,295, and 0 means 1.
     pub input: u32,
+    /// How many files the site holds at most: 0 to 1,048,576, and any larger number means that.
+    pub max_files: u32,
+    /// How many bytes their contents have together at most: 0 to 8,589,934,592, and any larger
+    /// number means that.
+    pub max_bytes: u64,
     /// What the owner of the site adds to its responses.
     pub added: Additions,
 }
@@ -49,6 +56,8 @@ impl SiteOptions {
             refuses_ambiguous: false,
             answers: 64,
             input: 65536,
+            max_files: 4096,
+            max_bytes: 268_435_456,
             added: Additions::none(alloc),
         }
     }
@@ -65,6 +74,8 @@ impl SiteOptions {
             refuses_ambiguous: self.refuses_ambiguous,
             answers: self.answers,
             input: self.input,
+            max_files: self.max_files,
+            max_bytes: self.max_bytes,
             added: self.added.copy(alloc)?,
         })
     }

@@ -37,7 +37,7 @@ impl<'s> Model for Page<'s> {
 }
 
 impl<'s> Page<'s> {
-    /// The contents of the file, of at most 268,435,456 bytes.
+    /// The contents of the file, of at most 8,589,934,592 bytes.
     pub fn body(&self) -> &'s [u8]
         ensures contents { result.now ≡ self.now.file.1 }
         ensures within { length result.now ≤ size_limit }

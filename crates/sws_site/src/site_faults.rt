@@ -6,11 +6,11 @@ use std::fmt;
 /// Why a folder could not be loaded as a site. Files are counted from 1, in the folder's order.
 #[derive(Clone, Copy, Debug, PartialEq, Eq)]
 pub enum SiteFault {
-    /// The folder has more than 4,096 files; `count` is 4,097.
+    /// The folder has more files than the site holds; `count` is one more than it holds.
     TooManyFiles { count: u32 },
     /// The name of this file has more than 1,024 bytes.
     LongName { number: u32 },
-    /// The contents up to and with this file have more than 268,435,456 bytes.
+    /// The contents up to and with this file have more bytes than the site holds.
     TooManyBytes { number: u32 },
     /// The folder failed.
     Fault,

@@ -3,7 +3,7 @@ ghost use Rattle.std.specs.Prelude.{◌≡◌, ◌<◌, ◌≤◌, length, slice
 ghost use Rattle.sws_link.specs.Counts.{HasCause};
 ghost use Rattle.httpdate.specs.declared.date.HttpDate.{HttpDate as Date};
 ghost use Rattle.sws_site.specs.Fixed.{is_fixed, not_found_page, refusal_head, refusal_body, IsFixed, IsFixedHead, IsFixedBody};
-ghost use Rattle.sws_site.specs.Limits.{IsWithinLimits};
+ghost use Rattle.sws_site.specs.Limits.{IsWithinLimits, IsWithinOptions};
 ghost use Rattle.sws_site.specs.Options.{plain_options};
 ghost use Rattle.sws_site.specs.Site.{found_in, last_second, IsDateAt};
 ghost use Rattle.sws_site.specs.Loading.{IsInitialFolder, LoadsSite, IsSameFolder};
@@ -113,9 +113,10 @@ impl Site {
     ) -> Result<Site, SiteFault>
         requires initial { IsInitialFolder (F.tells folder.old) }
         requires date { IfSome date (λ secs. secs ≤ last_second) }
-        ensures loads { LoadsSite (F.tells folder.old) result }
+        ensures loads { LoadsSite plain_options (F.tells folder.old) result }
         ensures date { IfOk result (λ site. IsDateAt date site.date) }
         ensures options { IfOk result (λ site. site.options ≡ plain_options) }
+        ensures within { IfOk result (λ site. IsWithinOptions plain_options site.files) }
         ensures same { IsSameFolder (F.tells folder.old) (F.tells folder.new) }
         ensures cause { HasCause (F.faults folder.old) (F.faults folder.new) (result
             ≡ Err SiteFault.Fault) }
@@ -123,7 +124,8 @@ impl Site {
         Site::load_with(alloc, folder, date, SiteOptions::plain(alloc))
     }
 
-    /// [`Site::load`] of a site that does more than a plain one.
+    /// [`Site::load`] of a site that does more than a plain one, or holds more or less; the limits
+    /// are those of the options.
     ///
     /// # Errors
     ///
@@ -136,9 +138,10 @@ impl Site {
     ) -> Result<Site, SiteFault>
         requires initial { IsInitialFolder (F.tells folder.old) }
         requires date { IfSome date (λ secs. secs ≤ last_second) }
-        ensures loads { LoadsSite (F.tells folder.old) result }
+        ensures loads { LoadsSite options (F.tells folder.old) result }
         ensures date { IfOk result (λ site. IsDateAt date site.date) }
         ensures options { IfOk result (λ site. site.options ≡ options) }
+        ensures within { IfOk result (λ site. IsWithinOptions options site.files) }
         ensures same { IsSameFolder (F.tells folder.old) (F.tells folder.new) }
         ensures cause { HasCause (F.faults folder.old) (F.faults folder.new) (result
             ≡ Err SiteFault.Fault) }
@@ -156,7 +159,7 @@ impl Site {
         options: SiteOptions,
         files: Vec<StoredFile>,
     ) -> Result<Site, AllocError>
-        requires limits { IsWithinLimits (files_of files.items) }
+        requires limits { IsWithinOptions options (files_of files.items) }
         requires heads { AllHaveHeads options date files.items }
         ensures files { IfOk result (λ site. site.files ≡ files_of files.items) }
         ensures date { IfOk result (λ site. site.date ≡ date) }
@@ -277,15 +280,15 @@ impl Site {
         &self.date
     }
 
-    /// What the site does beyond sending its files.
+    /// What the site does beyond sending its files, and how much it holds.
     pub fn options(&self) -> &SiteOptions
         ensures { result.now ≡ self.now.options }
     {
         &self.options
     }
 
-    /// A law, which does nothing when it runs: every site is within the limits
-    /// that [`Site::load`] keeps.
+    /// A law, which does nothing when it runs: every site is within the limits of any site, whatever
+    /// its options.
     pub fn limits(&self)
         ensures { IsWithinLimits self.now.files }
     {

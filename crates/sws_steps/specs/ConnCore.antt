@@ -46,7 +46,8 @@ abbrev pub reported_by : Bool → Next → Next
 reported_by true pending = next.Wait
 reported_by false pending = pending
 
--- what a step answers that leaves this connection
+-- what a step answers that leaves this connection: that it waits where the link wasn't ready and
+-- the end isn't known, and else what is pending
 abbrev pub reported_step : {Hall : Type 0} → ConnCoreState Hall → Next
 reported_step c = reported_by (is_waiting c) c.pending
 

@@ -186,7 +186,7 @@ OpensAt None before link answer after =
     × (after ≡ record { standing = going_to before.standing next.Read; link = Some link })
 OpensAt (Some there) before link answer after = (answer ≡ Err link) × (after ≡ before)
 
--- a connection is given its link
+-- a connection is given its link and is to read, or has one already and hands this one back
 abbrev pub Opens : {Hall L : Type 0} → ConnState Hall L → L → Result Next L
     → ConnState Hall L → Type 0
 Opens before link answer after = OpensAt before.link before link answer after

@@ -185,7 +185,8 @@ pub record LinesOf (log : List LogLine) (view : TalkView) : Type 0 where
   pub lines : take view.lines log ≡ lines_within view.written log
   pub there : view.lines ≤ length log
 
--- the same, where the link told its input
+-- where the link told its input, as many lines were given as stand first in the log of the whole
+-- input and sum to at most the bytes that were written
 abbrev pub LinesServed : (List ℕ → List LogLine) → Option LinkContents → TalkView → Type 0
 LinesServed log None view = ⊤
 LinesServed log (Some tells) view = LinesOf (log (input_of tells)) view
@@ -206,7 +207,8 @@ abbrev pub StepsBy : (Script → List Step) → Option Script → List Handler �
 StepsBy steps None trail told view = ⊤
 StepsBy steps (Some script) trail told view = StepsOf (steps script) trail told view
 
--- the same, where the link told its answers to come
+-- where the link told its answers to come, the events that were run are the first steps of its
+-- connection, with whether the last of them gave a line, and the next is the one that is due
 abbrev pub StepsServed : (Script → List Step) → Option LinkContents → List Handler → Bool
     → TalkView → Type 0
 StepsServed steps tells trail told view = StepsBy steps (answers_to_come tells) trail told view

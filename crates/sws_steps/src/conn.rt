@@ -191,6 +191,14 @@ impl<S: Speech + Drop, L: Link + Drop> SpeechConn<S, L> {
         })
     }
 
+    /// What it says.
+    pub fn speech(&self) -> &S
+        ensures hall { S.hall_of result.now ≡ self.now.conn.standing.hall }
+        ensures note { S.note_of result.now ≡ self.now.conn.standing.note }
+    {
+        &self.core.speech
+    }
+
     /// The link, once it was given.
     pub fn link(&self) -> Option<&L>
         ensures { option_copied result ≡ self.now.conn.link }

@@ -30,6 +30,7 @@ use Rattle.sws_script.specs.Grammar.{IsCause}
 use Rattle.sws_script.specs.declared.fault.ScriptFault.TheVariants as script_fault
 use Rattle.sws_site.proofs.LimitLemmas.{limit_of-none}
 use Rattle.sws_site.specs.Limits.{limit_of}
+use Rattle.sws_site.specs.Options.{plain_options}
 use Rattle.sws_site.specs.Site.{SiteState}
 use Rattle.sws_gopher.specs.Menus.{Place, place_of}
 use Rattle.sws_replay.specs.Accepted.{IsServerSetup}
@@ -471,9 +472,9 @@ module _ {F R W L O T G T' G' : Type 0} (f : FolderWords F) (r : SourceWords R) 
   -- ---- all is done
 
   not_full : (told : Option FolderContents) (limit : SiteLimit) → TellsWithinLimits told
-      → ((folder : FolderContents) → told ≡ Some folder → limit_of folder.files ≡ Some (refusal_of limit)) → ⊥
+      → ((folder : FolderContents) → told ≡ Some folder → limit_of plain_options folder.files ≡ Some (refusal_of limit)) → ⊥
   not_full None limit within full = within
-  not_full (Some folder) limit within full = (let none = limit_of-none folder.files within in let some = full folder refl in cc)
+  not_full (Some folder) limit within full = (let none = limit_of-none plain_options folder.files within in let some = full folder refl in cc)
 
   not_bad : (schedule : Bool) (cores line : ℕ) (left : Option (List ℕ)) → TellsInput schedule cores left
       → ((text : List ℕ) → left ≡ Some text → IsCause schedule cores text (script_fault.Bad line)) → ⊥

@@ -3,7 +3,7 @@ use Rattle.std.specs.Prelude.{◌≡◌, ◌⊎◌, ℕ, List, Option, Some, Non
 use Rattle.sws_link.specs.Counts.{Rose, IsLater}
 use Rattle.sws_link.specs.Told.{FolderContents}
 use Rattle.sws_link.specs.declared.Folder.{Ghosts as FolderWords}
-use Rattle.sws_site.specs.Limits.{IsWithinLimits, limit_of}
+use Rattle.sws_site.specs.Limits.{IsWithinOptions, limit_of}
 use Rattle.sws_site.specs.Options.{plain_options}
 use Rattle.sws_site.specs.Site.{SiteState, IsDateAt}
 use Rattle.sws_top.specs.declared.faults.TopFault.{TopFault}
@@ -21,10 +21,10 @@ OpensAt path None now = now ≡ None
 OpensAt path (Some before) None = ⊥
 OpensAt path (Some before) (Some now) = IsOpenAt path before now
 
--- the folder tells files that are no more than a site holds
+-- the folder tells files that are no more than a plain site holds
 abbrev pub TellsWithinLimits : Option FolderContents → Type 0
 TellsWithinLimits None = ⊥
-TellsWithinLimits (Some folder) = IsWithinLimits folder.files
+TellsWithinLimits (Some folder) = IsWithinOptions plain_options folder.files
 
 module _ {F : Type 0} (f : FolderWords F) (path : List ℕ) (folder now : F) where
   -- The folder was opened with the path, and the site has the files that it tells, in its order,
@@ -33,7 +33,8 @@ module _ {F : Type 0} (f : FolderWords F) (path : List ℕ) (folder now : F) whe
     pub date_is : IsDateAt date site.date
     pub files : (told : FolderContents) → f.tells folder ≡ Some told → site.files ≡ told.files
     pub plain : site.options ≡ plain_options
-    pub within : (told : FolderContents) → f.tells folder ≡ Some told → limit_of told.files ≡ None
+    pub within : (told : FolderContents) → f.tells folder ≡ Some told
+        → limit_of plain_options told.files ≡ None
     pub opened : OpensAt path (f.tells folder) (f.tells now)
     pub no_fault : f.faults now ≡ f.faults folder
 
@@ -47,7 +48,7 @@ module _ {F : Type 0} (f : FolderWords F) (path : List ℕ) (folder now : F) whe
   LacksSite (SiteFull limit) = (f.faults now ≡ f.faults folder)
       × OpensAt path (f.tells folder) (f.tells now)
       × ((told : FolderContents) → f.tells folder ≡ Some told
-      → limit_of told.files ≡ Some (refusal_of limit))
+      → limit_of plain_options told.files ≡ Some (refusal_of limit))
   LacksSite other = ⊥
 
   -- There is no site, for the reason that the fault names; the folder may have

@@ -48,8 +48,9 @@ by_name known (Some named) rest =
     (flag named.0) (rest None)
     else None
 
--- what the words give, one after another; `awaited` is the option of which
--- the next word is the value
+-- what the words give, from the left: a word at its place, an option with its value, in its word or
+-- as the next, a flag; behind `--` each word is at its place, and any other word that looks like an
+-- option is one that the command knows; the option is the one whose value the next word is
 unfoldable pub given_by : Known → Option Text → List Text → Option (List Given)
 given_by known None [] = Some []
 given_by known (Some name) [] = None

@@ -17,7 +17,7 @@ number_in word =
     if all_ascii_digits digits && not (length digits == 0) then Some
     (digits_value 10 digits) else None
 
--- a number of a range
+-- a number of a range: an optional plus sign and decimal digits, leading zeros among them
 unfoldable pub within : ℕ → ℕ → Text → Option ℕ
 within least most word =
     option_and_then (λ number.

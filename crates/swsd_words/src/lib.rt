@@ -6,4 +6,4 @@
 mod additions;
 mod order;
 
-pub use order::{Order, WordsFault, read_order};
+pub use order::{LogFault, LogFormat, Order, WordsFault, read_order};

@@ -15,6 +15,36 @@ const ABOUT: &str = "Serves the files below a folder by HTTP until it is told to
 /// How many seconds an age, a grace or the time between two looks may have, a day.
 const LONGEST: i64 = 86_400;
 
+/// At how many addresses connections may come in.
+const MOST_ADDRESSES: usize = 16;
+
+/// How the lines of the access log are written.
+#[derive(Clone, Copy, Debug, PartialEq, Eq)]
+pub enum LogFormat {
+    /// In the combined format of nginx and Apache.
+    Combined,
+
+    /// As `sws serve` writes them: the connection, the number of its answer, the status code, the
+    /// length of the response and the beginning of the target.
+    Short,
+}
+
+/// The names of these formats, as words have them.
+const FORMATS: [&str; 2] = ["combined", "short"];
+
+/// What is done where standard output, and so the log, can't be written.
+#[derive(Clone, Copy, Debug, PartialEq, Eq)]
+pub enum LogFault {
+    /// Lines are dropped, and serving goes on.
+    Go,
+
+    /// The server stops.
+    Stop,
+}
+
+/// Their names.
+const FAULTS: [&str; 2] = ["go", "stop"];
+
 /// What the words order.
 #[derive(Drop)]
 pub struct Order {
@@ -22,6 +52,9 @@ pub struct Order {
 
     /// Where connections come in.
     pub listen: SocketAddr,
+
+    /// Where they come in too, at most 15 addresses.
+    pub listen_too: Vec<SocketAddr>,
 
     /// How many threads serve a generation, 1 to 64.
     pub workers: u16,
@@ -40,6 +73,12 @@ pub struct Order {
     /// How many bytes of a connection count, 1 to 4,294,967,295.
     pub input: u32,
 
+    /// How many files the site holds at most, 1 to 1,048,576.
+    pub max_files: u32,
+
+    /// How many bytes they have together at most, 1 to 8,589,934,592.
+    pub max_bytes: u64,
+
     /// After how many seconds a generation takes no further connection.
     pub age: u64,
 
@@ -56,8 +95,11 @@ pub struct Order {
     /// The file that lets the folder be loaded anew, each time that it is made or written.
     pub reload_file: Option<String>,
 
-    /// Whether a line is written of each answer.
-    pub log: bool,
+    /// How a line is written of each answer, where one is.
+    pub log: Option<LogFormat>,
+
+    /// What is done where it can't be written.
+    pub log_fault: LogFault,
 
     /// Whether only faults are said.
     pub quiet: bool,
@@ -78,6 +120,9 @@ pub enum WordsFault {
 
     /// The word of `--listen` is no address with a port.
     Listen(String),
+
+    /// There are more addresses than this one and those before it may be.
+    ManyAddresses(String),
 
     /// The word of `--header` is no name with a value behind a colon and a space.
     HeaderParts(String),
@@ -117,6 +162,10 @@ impl fmt::Display for WordsFault {
             WordsFault::Listen(word) => write!(
                 f,
                 "error: invalid value '{word}' for '--listen <ADDRESS:PORT>': expected an address with a port, as 127.0.0.1:8080 or [::]:8080\n"
+            ),
+            WordsFault::ManyAddresses(word) => write!(
+                f,
+                "error: invalid value '{word}' for '--listen <ADDRESS:PORT>': it may stand 16 times at most\n"
             ),
             WordsFault::HeaderParts(word) => write!(
                 f,
@@ -170,13 +219,16 @@ fn places<'a>(alloc: Global) -> Result<Command<'a>, AllocError> {
                 .required(true)
                 .action(ArgAction::Set),
         )?
-        .arg(option(
-            alloc,
-            "listen",
-            "ADDRESS:PORT",
-            "Where connections come in; [::] takes IPv6 and IPv4",
-        )
-        .default_value("[::]:8080"))?
+        .arg(
+            option(
+                alloc,
+                "listen",
+                "ADDRESS:PORT",
+                "Where connections come in; [::] takes IPv6 and IPv4; may stand several times",
+            )
+            .action(ArgAction::Append)
+            .default_value("[::]:8080"),
+        )?
         .arg(flag(
             alloc,
             "hidden",
@@ -273,6 +325,31 @@ fn with_limits<'a>(alloc: Global, command: Command<'a>) -> Result<Command<'a>, A
         )
 }
 
+/// The options that say how much the site holds.
+fn with_sizes<'a>(alloc: Global, command: Command<'a>) -> Result<Command<'a>, AllocError> {
+    command
+        .arg(
+            option(
+                alloc,
+                "files",
+                "N",
+                "How many files the site holds at most, 1 to 1048576",
+            )
+            .value_parser(value_parser!(u32).range(1..=1_048_576))
+            .default_value("65536"),
+        )?
+        .arg(
+            option(
+                alloc,
+                "bytes",
+                "BYTES",
+                "How many bytes they have together at most, 1 to 8589934592",
+            )
+            .value_parser(value_parser!(u64).range(1..=8_589_934_592))
+            .default_value("1073741824"),
+        )
+}
+
 /// The options that say when the folder is looked at, and by which files the server is told to load
 /// it anew and to stop.
 fn with_files<'a>(alloc: Global, command: Command<'a>) -> Result<Command<'a>, AllocError> {
@@ -302,9 +379,12 @@ fn whole<'a>(alloc: Global) -> Result<Command<'a>, AllocError> {
         alloc,
         with_files(
             alloc,
-            with_limits(
+            with_sizes(
                 alloc,
-                with_times(alloc, with_numbers(alloc, places(alloc)?)?)?,
+                with_limits(
+                    alloc,
+                    with_times(alloc, with_numbers(alloc, places(alloc)?)?)?,
+                )?,
             )?,
         )?,
     )?
@@ -313,6 +393,23 @@ fn whole<'a>(alloc: Global) -> Result<Command<'a>, AllocError> {
         "log",
         "Write a line of each answer to standard output",
     ))?
+    .arg(option(
+        alloc,
+        "log-format",
+        "FORMAT",
+        "Write these lines so; asks for them too",
+    )
+    .value_parser(FORMATS.as_slice()))?
+    .arg(
+        option(
+            alloc,
+            "log-fault",
+            "WHAT",
+            "Go on or stop where standard output can't be written",
+        )
+        .value_parser(FAULTS.as_slice())
+        .default_value("go"),
+    )?
     .arg(flag(alloc, "quiet", "Say nothing but faults"))
 }
 
@@ -331,6 +428,41 @@ fn text(alloc: Global, word: Option<&str>) -> Result<Option<String>, AllocError>
     }
 }
 
+/// The address that a word says.
+fn address_of(alloc: Global, word: &str) -> Result<SocketAddr, WordsFault> {
+    match word.parse::<SocketAddr>() {
+        Ok(address) => Ok(address),
+        Err(_) => Err(WordsFault::Listen(String::from_str(alloc, word)?)),
+    }
+}
+
+/// The addresses that the words say, in their order.
+fn addresses_of(alloc: Global, matches: &ArgMatches<'_>) -> Result<Vec<SocketAddr>, WordsFault> {
+    let mut addresses = Vec::new(alloc);
+    if let Some(words) = matches.get_strs("listen") {
+        for word in words {
+            let address = address_of(alloc, word)?;
+            if addresses.len() >= MOST_ADDRESSES {
+                return Err(WordsFault::ManyAddresses(String::from_str(alloc, word)?));
+            }
+            if addresses.push(address).is_err() {
+                return Err(WordsFault::Memory);
+            }
+        }
+    }
+    Ok(addresses)
+}
+
+/// How the lines of the log are to be written, where they are asked for.
+fn log_of(matches: &ArgMatches<'_>) -> Option<LogFormat> {
+    match matches.get_str("log-format") {
+        Some("short") => Some(LogFormat::Short),
+        Some(_) => Some(LogFormat::Combined),
+        None if matches.get_flag("log") => Some(LogFormat::Combined),
+        None => None,
+    }
+}
+
 /// How many processors there are, as a number of lanes.
 fn few(processors: usize) -> u16 {
     let count = processors.max(1).min(128);
@@ -344,10 +476,11 @@ fn order_of(
     processors: usize,
 ) -> Result<Order, WordsFault> {
     let processors = few(processors);
-    let word = matches.get_str("listen").unwrap_or("");
-    let Ok(listen) = word.parse::<SocketAddr>() else {
-        return Err(WordsFault::Listen(String::from_str(alloc, word)?));
-    };
+    let mut listen_too = addresses_of(alloc, matches)?;
+    if listen_too.is_empty() {
+        return Err(WordsFault::Listen(String::new(alloc)));
+    }
+    let listen = listen_too.remove(0);
     let lanes = matches
         .get_one::<u16>("lanes")
         .unwrap_or(processors.saturating_mul(2).max(4));
@@ -355,18 +488,25 @@ fn order_of(
     Ok(Order {
         folder: text(alloc, matches.get_str("folder"))?.unwrap_or(String::new(alloc)),
         listen,
+        listen_too,
         workers: matches.get_one::<u16>("workers").unwrap_or(1),
         lanes,
         accepting: accepting.min(lanes),
         connections: matches.get_one::<u16>("connections").unwrap_or(1024),
         answers: matches.get_one::<u16>("answers").unwrap_or(1000),
         input: matches.get_one::<u32>("input").unwrap_or(4_194_304),
+        max_files: matches.get_one::<u32>("files").unwrap_or(65_536),
+        max_bytes: matches.get_one::<u64>("bytes").unwrap_or(1_073_741_824),
         age: matches.get_one::<u64>("age").unwrap_or(600),
         grace: matches.get_one::<u64>("grace").unwrap_or(30),
         look: matches.get_one::<u64>("look").unwrap_or(1),
         stop_file: text(alloc, matches.get_str("stop-file"))?,
         reload_file: text(alloc, matches.get_str("reload-file"))?,
-        log: matches.get_flag("log"),
+        log: log_of(matches),
+        log_fault: match matches.get_str("log-fault") {
+            Some("stop") => LogFault::Stop,
+            _ => LogFault::Go,
+        },
         quiet: matches.get_flag("quiet"),
         hidden: matches.get_flag("hidden"),
         added: additions_of(alloc, matches)?,

@@ -1,4 +1,4 @@
-//! Connections, logs, scripts, printed texts and the checker of journals, as tests.
+//! The steps of connections, logs, scripts and printed texts, as tests.
 //!
 //! They stand in a crate of their own, since a crate with tests is proved twice.
 #![tactic(auto)]

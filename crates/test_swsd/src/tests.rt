@@ -3,4 +3,5 @@ mod lanes;
 mod lines;
 mod reloads;
 mod shelves;
+mod visits;
 mod words;

@@ -1,12 +1,11 @@
-//! Connections over links in memory, and what they write.
+//! The steps of a connection, and its window.
 ghost use Rattle.std.specs.Prelude.{◌≡◌, false, IfOk};
 ghost use Rattle.sws_link.specs.MemWorlds.{IsInitialSureLink};
 
-mod lines;
 mod talks;
 
 use std::alloc::{AllocError, Global};
-use sws_conn::{Conn, End, Next, Window, serve_one};
+use sws_conn::{Conn, End, Next, Window};
 use sws_link::{LinkItem, LinkRead, MemLink, Memory, SureFolder, SureLink};
 use sws_site::Site;
 
@@ -19,12 +18,6 @@ const ANSWER: &[u8] =
 
 const CLOSING_ANSWER: &[u8] =
     b"HTTP/1.1 200 OK\r\nServer: sws\r\nConnection: close\r\nContent-Type: text/html\r\nContent-Length: 3\r\n\r\nhi\n";
-
-const GET_AND_HEAD: &[u8] =
-    b"GET / HTTP/1.1\r\nHost: x\r\n\r\nHEAD /a/b.txt HTTP/1.1\r\nHost: x\r\n\r\n";
-
-const HEAD_ANSWER: &[u8] =
-    b"HTTP/1.1 200 OK\r\nServer: sws\r\nContent-Type: text/plain\r\nContent-Length: 10\r\n\r\n";
 
 /// Three small files.
 static FILES: [(&[u8], &[u8]); 3] = [
@@ -61,16 +54,12 @@ fn three_files(alloc: Global) -> Result<Site, Memory> {
 enum Line<'a> {
     Send(&'a [u8]),
     Fill(u32),
-    Pause(u16),
-    Fault,
 }
 
 fn item_of(alloc: Global, line: &Line<'_>) -> Result<LinkItem, Memory> {
     Ok(match line {
         Line::Send(bytes) => LinkItem::Bytes(bytes.to_vec(alloc)?),
         Line::Fill(count) => LinkItem::Fill(*count),
-        Line::Pause(count) => LinkItem::Wait(*count),
-        Line::Fault => LinkItem::Fail,
     })
 }
 
@@ -81,190 +70,6 @@ fn items_of(alloc: Global, lines: &[Line<'_>]) -> Result<Vec<LinkItem>, Memory> 
         items.push(item_of(alloc, line)?)?;
     }
     Ok(items)
-}
-
-/// The bytes, each an item of its own.
-fn each_byte(alloc: Global, bytes: &[u8]) -> Result<Vec<LinkItem>, Memory> {
-    let mut items = Vec::new(alloc);
-    for byte in bytes {
-        items.push(LinkItem::Bytes([*byte].to_vec(alloc)?))?;
-    }
-    Ok(items)
-}
-
-/// How a connection of these items ends, with its link, which it has shut.
-fn served(
-    alloc: Global,
-    items: Vec<LinkItem>,
-    step: Option<u32>,
-    cut: Option<u64>,
-) -> Result<(MemLink, End), Memory> {
-    let site = three_files(alloc)?;
-    let link = MemLink::new(alloc, items, step, cut, Vec::new(alloc));
-    match serve_one(alloc, &site, link) {
-        Ok(served) => Ok(served),
-        Err(_) => Err(Memory),
-    }
-}
-
-/// Whether a connection of these items ends so, has written this and shut its link.
-fn has_served(
-    alloc: Global,
-    items: Vec<LinkItem>,
-    step: Option<u32>,
-    cut: Option<u64>,
-    end: End,
-    written: &[u8],
-) -> Result<bool, Memory> {
-    let (link, ended) = served(alloc, items, step, cut)?;
-    Ok(link.is_shut() && ended == end && link.written() == written)
-}
-
-/// Whether a connection of these lines ends so, and has written these answers.
-fn is_served(
-    alloc: Global,
-    lines: &[Line<'_>],
-    step: Option<u32>,
-    cut: Option<u64>,
-    end: End,
-    answers: &[&[u8]],
-) -> Result<bool, Memory> {
-    let written = answers.concat(alloc)?;
-    has_served(alloc, items_of(alloc, lines)?, step, cut, end, &written)
-}
-
-/// Whether a request whose bytes come one by one is sent the answer.
-fn is_served_by_bytes(alloc: Global, bytes: &[u8], answer: &[u8]) -> Result<bool, Memory> {
-    has_served(
-        alloc,
-        each_byte(alloc, bytes)?,
-        None,
-        None,
-        End::Done,
-        answer,
-    )
-}
-
-#[test]
-fn a_request_is_answered_however_it_is_cut_into_pieces(rt: HostRuntime) {
-    assert!(rt; is_served_by_bytes(rt.alloc(), GET, ANSWER) == Ok(true));
-    let lines = [Line::Send(&GET[..15]), Line::Send(&GET[15..])];
-    assert!(rt;
-        is_served(rt.alloc(), &lines, None, None, End::Done, &[ANSWER]) == Ok(true),
-        "between line ends"
-    );
-}
-
-/// So many requests, all but the last of which are answered alike.
-fn is_served_many(alloc: Global, count: usize, len: usize) -> Result<bool, Memory> {
-    let lines = [Line::Send(GET); 65];
-    let most = ANSWER.repeat(alloc, count)?;
-    let written = [most.as_slice(), CLOSING_ANSWER].concat(alloc)?;
-    let is_served = has_served(
-        alloc,
-        items_of(alloc, &lines)?,
-        None,
-        None,
-        End::Done,
-        &written,
-    )?;
-    Ok(is_served && written.len() == len)
-}
-
-#[test]
-fn pipelined_requests_are_answered_in_order(rt: HostRuntime) {
-    let lines = [Line::Send(GET_AND_HEAD)];
-    let answers = [ANSWER, HEAD_ANSWER];
-    assert!(rt; is_served(rt.alloc(), &lines, Some(1), None, End::Done, &answers) == Ok(true));
-    assert!(rt; is_served_many(rt.alloc(), 63, 5075) == Ok(true));
-}
-
-/// What a client sends, the answers that it gets, and how its connection ends.
-static SCRIPTS: [(&[Line<'_>], &[&[u8]], End); 7] = [
-    (&[], &[], End::Done),
-    (
-        &[Line::Send(GET), Line::Send(b"GET /em")],
-        &[ANSWER],
-        End::Done,
-    ),
-    (&[Line::Send(GET), Line::Fault], &[ANSWER], End::Fault),
-    (
-        &[Line::Send(GET), Line::Pause(29), Line::Send(GET)],
-        &[ANSWER, ANSWER],
-        End::Done,
-    ),
-    (
-        &[Line::Send(GET), Line::Pause(30), Line::Send(GET)],
-        &[ANSWER],
-        End::Idle,
-    ),
-    (
-        &[Line::Send(GET_AND_CLOSE), Line::Pause(30)],
-        &[CLOSING_ANSWER],
-        End::Done,
-    ),
-    (
-        &[
-            Line::Send(GET),
-            Line::Pause(29),
-            Line::Send(GET),
-            Line::Pause(29),
-            Line::Send(GET),
-        ],
-        &[ANSWER, ANSWER, ANSWER],
-        End::Done,
-    ),
-];
-
-#[test]
-fn a_connection_ends_as_its_script_says(rt: HostRuntime) {
-    for &(lines, answers, end) in &SCRIPTS {
-        assert!(rt; is_served(rt.alloc(), lines, None, None, end, answers) == Ok(true));
-    }
-    let lines = [Line::Send(GET)];
-    let answers: [&[u8]; 1] = [b"HTTP/1."];
-    assert!(rt; is_served(rt.alloc(), &lines, None, Some(7), End::Fault, &answers) == Ok(true));
-}
-
-/// Whether these lines are sent one answer, which begins so and has so many bytes, and the
-/// connection ends with it.
-fn is_refused(alloc: Global, lines: &[Line<'_>], front: &[u8], len: usize) -> Result<bool, Memory> {
-    let (link, end) = served(alloc, items_of(alloc, lines)?, None, None)?;
-    let written = link.written();
-    Ok(link.is_shut() && end == End::Done && written.len() == len && written.starts_with(front))
-}
-
-/// The front of a head that is filled up, and its end.
-const LONG: Line<'_> = Line::Send(b"GET / HTTP/1.1\r\nHost: x\r\nX:");
-
-const LINE_ENDS: Line<'_> = Line::Send(b"\r\n\r\n");
-
-const WITH_BODY: &[u8] = b"POST / HTTP/1.1\r\nHost: x\r\nContent-Length: 5\r\n\r\nhello";
-
-/// What a client sends, how the answer that refuses it begins, and how many bytes it has.
-static REFUSALS: [(&[Line<'_>], &[u8], usize); 4] = [
-    (&[LONG, Line::Fill(8162), LINE_ENDS], b"HTTP/1.1 431 ", 162),
-    (&[Line::Fill(8192)], b"HTTP/1.1 431 ", 162),
-    (
-        &[Line::Send(b"GET / HTTP/1.1\r\n\r\n"), Line::Send(GET)],
-        b"HTTP/1.1 400 ",
-        122,
-    ),
-    (&[Line::Send(WITH_BODY)], b"HTTP/1.1 405 ", 154),
-];
-
-/// A head of 8,192 bytes.
-static LONGEST: [Line<'_>; 3] = [LONG, Line::Fill(8161), LINE_ENDS];
-
-#[test]
-fn a_refusal_closes_the_connection(rt: HostRuntime) {
-    assert!(rt;
-        is_served(rt.alloc(), &LONGEST, None, None, End::Done, &[ANSWER]) == Ok(true),
-        "a head of 8,192 bytes"
-    );
-    for &(lines, front, len) in &REFUSALS {
-        assert!(rt; is_refused(rt.alloc(), lines, front, len) == Ok(true));
-    }
 }
 
 /// The steps of a connection of one request.

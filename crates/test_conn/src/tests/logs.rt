@@ -1,4 +1,5 @@
 //! The lines of an access log, as text.
+use super::one_call;
 use std::alloc::{AllocError, Global};
 use std::test::*;
 use sws_link::{MemSink, Put, SureSink};
@@ -68,7 +69,7 @@ fn a_target_is_cut_behind_its_64th_byte(rt: HostRuntime) {
 
 /// What a log of a row answers at a sink whose first call fails, and how much that has kept.
 fn failing_log(alloc: Global, row: Row) -> Result<(Put, usize), AllocError> {
-    let mut sink = MemSink::new(alloc, [1].to_vec(alloc)?);
+    let mut sink = MemSink::new(alloc, one_call(alloc, 1)?);
     let put = write_log(alloc, &mut sink, &[line(row)]);
     Ok((put, sink.written().len()))
 }

@@ -1,3 +1,4 @@
+use super::one_call;
 use mely_event::{Colour, Event};
 use mely_history::Entry;
 use std::alloc::{AllocError, Global};
@@ -143,7 +144,7 @@ fn a_journal_has_a_line_for_each_entry(rt: HostRuntime) {
 /// What the transcript of a connection answers at a sink whose call of this number fails, and how
 /// much that has kept.
 fn failing_conn(alloc: Global, failing: u32, written: &[u8]) -> Result<(Put, usize), AllocError> {
-    let mut sink = MemSink::new(alloc, [failing].to_vec(alloc)?);
+    let mut sink = MemSink::new(alloc, one_call(alloc, failing)?);
     let put = write_conn(alloc, &mut sink, 0, End::Done, written);
     Ok((put, sink.written().len()))
 }

@@ -1,4 +1,4 @@
-use std::alloc::{AllocError, Global};
+use std::alloc::Global;
 use sws_link::World;
 use sws_script::{Input, Item, ScriptConn, ScriptFault, parse, print, script_world};
 
@@ -12,17 +12,6 @@ const SCHEDULE: &[u8] =
 
 fn read(alloc: Global, text: &[u8], schedule: bool) -> Result<Input, ScriptFault> {
     parse(alloc, text, schedule, 2)
-}
-
-/// Why a text is refused.
-fn fault_of(alloc: Global, text: &[u8], schedule: bool) -> Option<ScriptFault> {
-    read(alloc, text, schedule).err()
-}
-
-/// A text, and then another so many times.
-fn repeated(alloc: Global, front: &[u8], more: &[u8], count: usize) -> Result<Vec<u8>, AllocError> {
-    let more = more.repeat(alloc, count)?;
-    [front, more.as_slice()].concat(alloc)
 }
 
 /// Whether a text is read and then printed so.
@@ -97,78 +86,4 @@ fn a_piece_has_the_bytes_of_its_text(rt: HostRuntime) {
     assert!(rt; script_sends(rt.alloc(), PIECE, b"A\r\n\r\n") == Ok(true));
     let want = b"sws-script 1\nconn\nsend A~~\n";
     assert!(rt; is_printed_so(rt.alloc(), PIECE, false, want) == Ok(true));
-}
-
-/// Scripts that go wrong, and the line where each does.
-static BAD_SCRIPTS: [(&[u8], u32); 24] = [
-    (b"", 1),
-    (b"\n", 1),
-    (b"sws-script 1\nhello", 2),
-    (b"sws-script 2\nconn", 1),
-    (b"sws-script 1\n\n", 2),
-    (b"sws-script 1\nsend a", 2),
-    (b"sws-script 1\nconn\nsend ", 3),
-    (b"sws-script 1\nconn\nsend \\x4G", 3),
-    (b"sws-script 1\nconn\nsend \\xAB", 3),
-    (b"sws-script 1\nconn\nsend a\\", 3),
-    (b"sws-script 1\nconn\nfill 0", 3),
-    (b"sws-script 1\nconn\nfill 01", 3),
-    (b"sws-script 1\nconn\nfill +1", 3),
-    (b"sws-script 1\nconn\nfill 65537", 3),
-    (b"sws-script 1\nconn\nfill 1 ", 3),
-    (b"sws-script 1\nconn\ncut 1\nstep 1", 4),
-    (b"sws-script 1\nconn\nstep 1\nstep 1", 4),
-    (b"sws-script 1\nconn\nfill 1\ncut 1", 4),
-    (b"sws-script 1\nconn\npause 1\npause 1", 4),
-    (b"sws-script 1\nconn\nfault\nfault", 4),
-    (b"sws-script 1\nconn\nfault\nsend a", 4),
-    (b"sws-script 1\nconn\npause 1001", 3),
-    (b"sws-script 1\nconn\ncut 1000000001", 3),
-    (b"sws-script 1\r\nconn\n", 1),
-];
-
-#[test]
-fn a_fault_names_the_first_line_that_may_not_follow(rt: HostRuntime) {
-    for &(text, line) in &BAD_SCRIPTS {
-        assert!(rt; fault_of(rt.alloc(), text, false) == Some(ScriptFault::Bad { line }));
-    }
-}
-
-/// Schedules with scripts that go wrong, and the line where each does.
-static BAD_SCHEDULES: [(&[u8], u32); 7] = [
-    (b"sws-script 1\n", 1),
-    (b"sws-schedule 1\n", 2),
-    (b"sws-schedule 1\nend", 3),
-    (b"sws-schedule 1\nstep 2 1\nend\nsws-script 1\n", 2),
-    (b"sws-schedule 1\nstep 0 0\nend\nsws-script 1\n", 2),
-    (b"sws-schedule 1\nstep 0 1000001\nend\nsws-script 1\n", 2),
-    (b"sws-schedule 1\nstep 1\nend\nsws-script 1\n", 2),
-];
-
-/// Why a schedule with so many steps is refused.
-fn fault_of_steps(alloc: Global, count: usize) -> Result<Option<ScriptFault>, AllocError> {
-    let text = repeated(alloc, b"sws-schedule 1\n", b"step 0 1000000\n", count)?;
-    Ok(fault_of(alloc, &text, true))
-}
-
-#[test]
-fn a_schedule_has_its_limits(rt: HostRuntime) {
-    for &(text, line) in &BAD_SCHEDULES {
-        assert!(rt; fault_of(rt.alloc(), text, true) == Some(ScriptFault::Bad { line }));
-    }
-    let fault = ScriptFault::Bad { line: 12 };
-    assert!(rt; fault_of_steps(rt.alloc(), 11) == Ok(Some(fault)));
-}
-
-/// How many connections are read of a script that has so many.
-fn read_of(alloc: Global, count: usize) -> Result<Result<usize, ScriptFault>, AllocError> {
-    let text = repeated(alloc, b"sws-script 1\n", b"conn\n", count)?;
-    Ok(connections_of(alloc, &text))
-}
-
-#[test]
-fn there_are_1024_connections_at_most(rt: HostRuntime) {
-    assert!(rt; read_of(rt.alloc(), 1_024) == Ok(Ok(1_024)));
-    let fault = ScriptFault::TooMany { line: 1_026 };
-    assert!(rt; read_of(rt.alloc(), 1_025) == Ok(Err(fault)));
 }

@@ -26,7 +26,7 @@ fn ends_so(rt: &(impl AllocGlobal + Abort), failing: u32, end: End, len: usize) 
         None,
         calls,
     );
-    match serve_one(rt.alloc(), &site(rt, None), link) {
+    match serve_one(rt.alloc(), &site(rt), link) {
         Ok((link, ended)) => {
             ended == end && link.is_shut() && A.get(..len) == Some(link.written())
         }

@@ -83,7 +83,7 @@ fn are_logged<R: AllocGlobal + Abort + Threads + Wait + Sync>(
         shards,
         ..PLAIN
     };
-    let site = site(rt, None);
+    let site = site(rt);
     let ended = serve_logged(rt, &site, &shape, links_of(rt, &CLIENTS));
     ended.verdict == Verdict::Ok && has_all_lines(rt, &ended.log)
 }

@@ -165,12 +165,12 @@ fn events_of_three<R: AllocGlobal + Abort + Threads + Wait + Sync, G: Gate + Syn
     shards: u16,
     gate: &G,
 ) -> Option<u64> {
-    let site = site(rt, None);
+    let site = site(rt);
     let ended = serve(rt, &site, &shape(cores, shards), links_of(rt, &THREE), gate);
     let is_whole = ended.verdict == Verdict::Ok
         && ended.world.is_some()
         && (ended.accepted, ended.failed) == (3, false)
-        && is_printed(rt, &ended, false, THREE_SHOWN);
+        && is_printed(rt, &ended, THREE_SHOWN);
     is_whole.then_some(events_of(rt, &ended.histories))
 }
 
@@ -184,7 +184,7 @@ fn starve<R: AllocGlobal + Abort + Threads + Wait + Sync>(
     requires few { length links.items ≤ conn_limit }
     requires initial { AllByRecursion IsInitialMemLink links.items }
 {
-    let site = site(rt, None);
+    let site = site(rt);
     let world = Starving {
         world: MemWorld::new(links, Vec::new(rt.alloc())),
         refuses,
@@ -252,7 +252,7 @@ fn serve_counted<'r, R: AllocGlobal + Abort + Threads + Wait + Sync>(
     calls: &'r AtomicU64,
     gate: &Before<'_>,
 ) -> Ended<CountedWorld<'r>> {
-    let site = site(rt, None);
+    let site = site(rt);
     let world = CountedWorld {
         world: MemWorld::new(links_of(rt, &LATE), Vec::new(rt.alloc())),
         calls,
@@ -296,7 +296,7 @@ fn are_at_once<R: AllocGlobal + Abort + Threads + Wait + Sync>(
     rt: &R,
     clock: &HostRuntime,
 ) -> bool {
-    let site = site(rt, None);
+    let site = site(rt);
     let gate = Meeting {
         clock,
         passed: AtomicU64::new(0),
@@ -316,51 +316,6 @@ fn are_at_once<R: AllocGlobal + Abort + Threads + Wait + Sync>(
 #[test]
 fn two_workers_are_at_the_gate_at_once(rt: HostRuntime) {
     assert!(rt; are_at_once(&rt, &rt));
-}
-
-/// A client whose link fails, one whose link is not ready, one whose link stays so, one that is cut
-/// off, and one that sends byte by byte.
-static FAIL_AND_WAIT: [Client; 5] = [
-    (&[Part::Send(G), Part::Fault], None, None),
-    (&[Part::Pause(29), Part::Send(G)], None, None),
-    (&[Part::Send(G), Part::Pause(30)], None, None),
-    (&[Part::Send(G)], Some(1), Some(7)),
-    (&[Part::Drops(G)], None, None),
-];
-
-static FAIL_AND_WAIT_LEAVE: [Left; 5] = [
-    (End::Fault, A),
-    (End::Done, A),
-    (End::Idle, A),
-    (End::Fault, b"HTTP/1."),
-    (End::Done, A),
-];
-
-/// Whether links that fail and wait are left so by four workers.
-fn are_left<R: AllocGlobal + Abort + Threads + Wait + Sync>(rt: &R) -> bool {
-    let site = site(rt, None);
-    let links = links_of(rt, &FAIL_AND_WAIT);
-    let ended = serve(rt, &site, &shape(4, 2), links, &OpenGate);
-    ended.verdict == Verdict::Ok && have_left(&ended, &FAIL_AND_WAIT_LEAVE)
-}
-
-#[test]
-fn links_that_fail_and_wait_leave_the_others_alone(rt: HostRuntime) {
-    assert!(rt; are_left(&rt));
-}
-
-/// Whether nothing is served where there is no link.
-fn is_nothing_served<R: AllocGlobal + Abort + Threads + Wait + Sync>(rt: &R) -> bool {
-    let site = site(rt, None);
-    let ended = serve(rt, &site, &shape(4, 4), Vec::new(rt.alloc()), &OpenGate);
-    ended.verdict == Verdict::Ok
-        && ended.world.is_some()
-        && (ended.accepted, ended.served.len()) == (0, 0)
-}
-
-#[test]
-fn nothing_is_to_be_served_by_threads_where_there_is_no_link(rt: HostRuntime) {
-    assert!(rt; is_nothing_served(&rt));
 }
 
 /// Four clients on four workers: one fails, one waits, one finds no memory to write, and one is

@@ -40,7 +40,7 @@ fn starve<R: AllocGlobal + Abort + Wait>(
     requires cores { All (λ part. part.0 < shape.now.cores) schedule.now }
     requires count { sum_by (λ part. part.1) schedule.now < 2 ^ 64 }
 {
-    let site = site(rt, None);
+    let site = site(rt);
     let world = Starving {
         world: MemWorld::new(links, Vec::new(rt.alloc())),
         refuses,

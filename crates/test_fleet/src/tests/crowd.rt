@@ -308,7 +308,10 @@ pub(super) fn close_fleet(
         mut callers,
     } = opened;
     let outside = part(alloc, &fleet, setup, &mut callers)?;
-    fleet.close_seats(alloc, room, callers, outside)
+    match fleet.close_seats(alloc, room, callers, outside) {
+        Ok(weave) => Ok(weave),
+        Err(_) => Err(Memory),
+    }
 }
 
 /// Who act at once, and how many handlers have run when they are back, where that is known.

@@ -36,6 +36,8 @@ fn options(added: Additions) -> SiteOptions {
         refuses_ambiguous: true,
         answers: 1000,
         input: 4_194_304,
+        max_files: 65_536,
+        max_bytes: 1_073_741_824,
         added,
     }
 }

@@ -32,8 +32,8 @@ fn failing_source_gives(
     failing: &[u32],
     answers: &[Got],
 ) -> Result<bool, AllocError> {
-    let bytes = bytes.to_vec(alloc)?;
-    let mut source = MemSource::new(bytes, failing.to_vec(alloc)?);
+    let calls = calls_of(alloc, failing)?;
+    let mut source = MemSource::new(bytes.to_vec(alloc)?, calls);
     Ok(reads_so(&mut source, answers))
 }
 
@@ -55,9 +55,18 @@ fn sure_sink_keeps(alloc: Global, written: &[u8]) -> bool {
     writes_so(&mut sink, Put::Done, Put::Done) && sink.written() == written
 }
 
+/// The calls of these numbers, as ones that fail.
+fn calls_of(alloc: Global, numbers: &[u32]) -> Result<Vec<u32>, AllocError> {
+    let mut calls = Vec::new(alloc);
+    for number in numbers {
+        calls.push(*number)?;
+    }
+    Ok(calls)
+}
+
 /// Whether a sink whose first call fails has kept this.
 fn failing_sink_keeps(alloc: Global, written: &[u8]) -> Result<bool, AllocError> {
-    let mut sink = MemSink::new(alloc, [1].to_vec(alloc)?);
+    let mut sink = MemSink::new(alloc, calls_of(alloc, &[1])?);
     Ok(writes_so(&mut sink, Put::Failed, Put::Done) && sink.written() == written)
 }
 
@@ -105,8 +114,8 @@ fn sure_folder_lists(alloc: Global) -> Result<bool, AllocError> {
 
 /// Whether a folder of the two files whose calls 1 and 3 fail gives what is left.
 fn failing_folder_lists(alloc: Global) -> Result<bool, AllocError> {
-    let files = files_of(alloc, &TWO_FILES)?;
-    let mut folder = MemFolder::new(alloc, files, [1, 3].to_vec(alloc)?);
+    let calls = calls_of(alloc, &[1, 3])?;
+    let mut folder = MemFolder::new(alloc, files_of(alloc, &TWO_FILES)?, calls);
     Ok(lists_so(&mut folder, Opened::Failed, &WITH_A_FAILURE))
 }
 
@@ -185,8 +194,8 @@ fn failing_link_gives(
     failing: &[u32],
     answers: &[(LinkRead, &[u8])],
 ) -> Result<bool, AllocError> {
-    let items = items_of(alloc, items)?;
-    let mut link = MemLink::new(alloc, items, None, None, failing.to_vec(alloc)?);
+    let calls = calls_of(alloc, failing)?;
+    let mut link = MemLink::new(alloc, items_of(alloc, items)?, None, None, calls);
     Ok(gives_so(&mut link, 2, answers))
 }
 
@@ -283,8 +292,8 @@ fn link_of(
 ) -> Result<MemLink, AllocError>
     ensures { IfOk result (λ link. link.shut ≡ false) }
 {
-    let failing = failing.to_vec(alloc)?;
-    Ok(MemLink::new(alloc, Vec::new(alloc), step, cut, failing))
+    let calls = calls_of(alloc, failing)?;
+    Ok(MemLink::new(alloc, Vec::new(alloc), step, cut, calls))
 }
 
 /// Whether writes of a piece of five bytes answer so, through the bound.

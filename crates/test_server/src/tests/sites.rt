@@ -1,9 +1,9 @@
 //! What loading, looking up and the prebuilt heads give with ample memory.
 
-use super::files::{THREE_FILES, files_of, site_of};
+use super::files::{THREE_FILES, site_of};
 use std::alloc::Global;
 use sws_link::{Folder, Got, MemFolder, NextFile, Opened};
-use sws_site::{HeadKind, Site, SiteFault};
+use sws_site::{HeadKind, Site, SiteFault, SiteOptions};
 
 const OPEN: HeadKind = HeadKind {
     changed: true,
@@ -34,19 +34,9 @@ fn has_file_at(site: &Site, place: usize, name: &[u8], contents: &[u8]) -> bool 
 const TEXT_HEAD: &[u8] =
     b"HTTP/1.1 200 OK\r\nServer: sws\r\nContent-Type: text/plain\r\nContent-Length: 10\r\n\r\n";
 
-/// The site of a folder of these files whose calls of these numbers fail.
-fn loaded_of(alloc: Global, files: &[(&[u8], &[u8])], failing: &[u32]) -> Result<Site, SiteFault> {
-    let files = files_of(alloc, files)?;
-    let mut folder = MemFolder::new(alloc, files, failing.to_vec(alloc)?);
-    if folder.open("site") != Opened::Ready {
-        return Err(SiteFault::Memory);
-    }
-    Site::load(alloc, &mut folder, None)
-}
-
 /// Whether the site of the three files has no date, no other file, and a text with its head.
 fn has_three_files(alloc: Global) -> Result<bool, SiteFault> {
-    let site = loaded_of(alloc, &THREE_FILES, &[])?;
+    let site = site_of(alloc, &THREE_FILES, None)?;
     let are_three = site.files() == 3 && site.date() == None && site.lookup(b"a").is_none();
     let has_file = has_file(&site, b"a/b.txt", b"0123456789");
     Ok(are_three && has_file && has_head(&site, b"a/b.txt", OPEN, TEXT_HEAD))
@@ -70,36 +60,6 @@ fn finds_the_first(alloc: Global) -> Result<bool, SiteFault> {
 #[test]
 fn the_first_of_two_files_of_a_name_is_found(rt: HostRuntime) {
     assert!(rt; finds_the_first(rt.alloc()) == Ok(true));
-}
-
-const UNCHANGED: HeadKind = HeadKind {
-    changed: false,
-    closes: true,
-};
-
-/// The heads of a site with a date: whether the file is sent, and the head.
-static DATED_HEADS: [(HeadKind, &[u8]); 2] = [
-    (
-        OPEN,
-        b"HTTP/1.1 200 OK\r\nServer: sws\r\nLast-Modified: Sun, 06 Nov 1994 08:49:37 GMT\r\nContent-Type: text/html\r\nContent-Length: 3\r\n\r\n",
-    ),
-    (
-        UNCHANGED,
-        b"HTTP/1.1 304 Not Modified\r\nServer: sws\r\nConnection: close\r\nLast-Modified: Sun, 06 Nov 1994 08:49:37 GMT\r\n\r\n",
-    ),
-];
-
-/// Whether a site with a date says it, and sends an index with this head.
-fn has_dated_head(alloc: Global, kind: HeadKind, head: &[u8]) -> Result<bool, SiteFault> {
-    let site = site_of(alloc, &[(b"index.html", b"hi\n")], Some(784111777))?;
-    Ok(site.date() == Some(784111777) && has_head(&site, b"index.html", kind, head))
-}
-
-#[test]
-fn a_site_with_a_date_says_when_it_was_modified(rt: HostRuntime) {
-    for &(kind, head) in &DATED_HEADS {
-        assert!(rt; has_dated_head(rt.alloc(), kind, head) == Ok(true));
-    }
 }
 
 /// The head and the body that refuse a method.
@@ -136,60 +96,13 @@ fn refuses_so(
 ) -> Result<bool, SiteFault> {
     let site = site_of(alloc, &[], Some(784111777))?;
     let is_fixed = is_fixed_length(&site, code, closes, len);
-    Ok(is_fixed && site.fixed(405, true) == *refusal)
+    Ok(is_fixed && site.date() == Some(784111777) && site.fixed(405, true) == *refusal)
 }
 
 #[test]
 fn responses_that_refuse_are_the_same_for_each_site(rt: HostRuntime) {
     for &(code, closes, len) in &LENGTHS {
         assert!(rt; refuses_so(rt.alloc(), &NOT_ALLOWED, code, closes, len) == Ok(true));
-    }
-}
-
-/// Names, and the media type of each.
-static MEDIA_TYPES: [(&[u8], &[u8]); 8] = [
-    (b"a/index.HTML", b"text/html"),
-    (b"x.Woff2", b"font/woff2"),
-    (b"photo.jpeg", b"image/jpeg"),
-    (b"a.css/readme", b"application/octet-stream"),
-    (b".css", b"text/css"),
-    (b"a.tar.gz", b"application/octet-stream"),
-    (b"end.", b"application/octet-stream"),
-    (b"js", b"application/octet-stream"),
-];
-
-/// Whether an empty file of this name is sent with the head for this media type.
-fn has_media_type(alloc: Global, name: &[u8], kind: &[u8]) -> Result<bool, SiteFault> {
-    let site = site_of(alloc, &[(name, b"")], None)?;
-    let front = b"HTTP/1.1 200 OK\r\nServer: sws\r\nContent-Type: ".as_slice();
-    let head = [front, kind, b"\r\nContent-Length: 0\r\n\r\n"].concat(alloc)?;
-    Ok(has_head(&site, name, OPEN, &head))
-}
-
-#[test]
-fn the_extension_of_a_name_says_the_media_type(rt: HostRuntime) {
-    for &(name, kind) in &MEDIA_TYPES {
-        assert!(rt; has_media_type(rt.alloc(), name, kind) == Ok(true));
-    }
-}
-
-/// Two files of one byte.
-static TWO_FILES: [(&[u8], &[u8]); 2] = [(b"a", b"1"), (b"b", b"2")];
-
-/// Why two files are not loaded where the call of this number fails.
-fn fault_at(alloc: Global, failing: u32) -> Option<SiteFault> {
-    loaded_of(alloc, &TWO_FILES, &[failing]).err()
-}
-
-#[test]
-fn a_call_that_fails_ends_the_load(rt: HostRuntime) {
-    // After `open`: the step to a file, a read of it and the read that meets its end,
-    // twice; and the last step.
-    for failing in 2..9 {
-        assert!(rt;
-            fault_at(rt.alloc(), failing) == Some(SiteFault::Fault),
-            "call {failing}"
-        );
     }
 }
 
@@ -240,6 +153,19 @@ impl Folder for Vast {
     }
 }
 
+impl Vast {
+    /// A folder of so many files, of which none was given.
+    fn new(files: u32, last_name: usize, contents: usize) -> Vast {
+        Vast {
+            files,
+            last_name,
+            contents,
+            left: 0,
+            at_file: false,
+        }
+    }
+}
+
 /// How many files are loaded of such a folder.
 fn loaded(
     alloc: Global,
@@ -247,15 +173,45 @@ fn loaded(
     last_name: usize,
     contents: usize,
 ) -> Result<usize, SiteFault> {
-    let mut folder = Vast {
-        files,
-        last_name,
-        contents,
-        left: 0,
-        at_file: false,
-    };
+    let mut folder = Vast::new(files, last_name, contents);
     let site = Site::load(alloc, &mut folder, None)?;
     Ok(site.files())
+}
+
+/// How many of so many files of ten bytes are loaded by a site that holds so many files and bytes.
+fn loaded_by(
+    alloc: Global,
+    max_files: u32,
+    max_bytes: u64,
+    files: u32,
+) -> Result<usize, SiteFault> {
+    let mut options = SiteOptions::plain(alloc);
+    options.max_files = max_files;
+    options.max_bytes = max_bytes;
+    let mut folder = Vast::new(files, 1, 10);
+    let site = Site::load_with(alloc, &mut folder, None, options)?;
+    Ok(site.files())
+}
+
+/// How many files and bytes a site holds, how many files of ten bytes there are, and what comes of
+/// loading them.
+static OWN: [(u32, u64, u32, Result<usize, SiteFault>); 6] = [
+    (3, 1000, 3, Ok(3)),
+    (3, 1000, 4, Err(SiteFault::TooManyFiles { count: 4 })),
+    (1000, 30, 3, Ok(3)),
+    (1000, 29, 3, Err(SiteFault::TooManyBytes { number: 3 })),
+    (0, 0, 1, Err(SiteFault::TooManyFiles { count: 1 })),
+    (5000, 50_000, 5000, Ok(5000)),
+];
+
+#[test]
+fn a_site_holds_as_much_as_its_options_say(rt: HostRuntime) {
+    for (row, &(max_files, max_bytes, files, ends)) in OWN.iter().enumerate() {
+        assert!(rt;
+            loaded_by(rt.alloc(), max_files, max_bytes, files) == ends,
+            "row {row}"
+        );
+    }
 }
 
 #[test]

@@ -9,7 +9,7 @@ use std::{fs, thread};
 use sws_daemon::{Served, serve_at};
 use sws_outbox::Outbox;
 use sws_site::Additions;
-use swsd_words::Order;
+use swsd_words::{LogFault, Order};
 
 /// How many clients ask.
 const CLIENTS: u64 = 40;
@@ -97,18 +97,22 @@ fn order_of(
     Ok(Order {
         folder: String::from_str(alloc, folder)?,
         listen: SocketAddr::from(([127, 0, 0, 1], 0)),
+        listen_too: Vec::new(alloc),
         workers: 1,
         lanes,
         accepting: lanes.min(2),
         connections: 2,
         answers: 1000,
         input: 4_194_304,
+        max_files: 65_536,
+        max_bytes: 1_073_741_824,
         age: 600,
         grace,
         look: 1,
         stop_file: Some(String::from_str(alloc, stop)?),
         reload_file: None,
-        log: false,
+        log: None,
+        log_fault: LogFault::Go,
         quiet: true,
         hidden: false,
         added: Additions::none(alloc),
@@ -146,10 +150,11 @@ fn serve<T: AllocGlobal + Threads + Wait + Sync + Clock>(
 ) -> io::Result<(Option<Served>, (u64, usize))> {
     let listener = TcpListener::bind(rt, order.listen)?;
     let address = listener.local_addr()?;
+    let listeners = [listener];
     let outbox = Outbox::new(rt.alloc());
     let (served, asked) = thread::join(
         threads,
-        || serve_at(rt, threads, order, &listener, &outbox),
+        || serve_at(rt, threads, order, &listeners, &outbox),
         || ask_so(rt, address, stop, asking),
     );
     Ok((served.ok(), asked?))

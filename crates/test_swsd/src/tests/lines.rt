@@ -13,7 +13,7 @@ use sws_lane::{Told, Totals};
 use sws_link::Opened;
 use sws_outbox::{Outbox, Queue};
 use sws_site::Additions;
-use swsd_words::Order;
+use swsd_words::{LogFault, LogFormat, Order};
 
 /// How many clients ask.
 const CLIENTS: u64 = 6;
@@ -43,18 +43,22 @@ fn order_of(rt: &HostRuntime) -> io::Result<Order> {
     Ok(Order {
         folder: String::from_str(rt.alloc(), "swsd_lines_site")?,
         listen: SocketAddr::from(([127, 0, 0, 1], 0)),
+        listen_too: Vec::new(rt.alloc()),
         workers: 2,
         lanes: 1,
         accepting: 1,
         connections: 16,
         answers: 1000,
         input: 4_194_304,
+        max_files: 65_536,
+        max_bytes: 1_073_741_824,
         age: 600,
         grace: 5,
         look: 1,
         stop_file: Some(String::from_str(rt.alloc(), "swsd_lines_stop")?),
         reload_file: None,
-        log: true,
+        log: Some(LogFormat::Combined),
+        log_fault: LogFault::Go,
         quiet: false,
         hidden: false,
         added: Additions::none(rt.alloc()),
@@ -70,9 +74,10 @@ fn serve<T: AllocGlobal + Threads + Wait + Sync + Clock>(
 ) -> io::Result<(bool, u64)> {
     let listener = TcpListener::bind(rt, order.listen)?;
     let address = listener.local_addr()?;
+    let listeners = [listener];
     let (served, answered) = thread::join(
         threads,
-        || serve_at(rt, threads, order, &listener, outbox),
+        || serve_at(rt, threads, order, &listeners, outbox),
         || ask_all(rt, address, "swsd_lines_stop"),
     );
     Ok((served.is_ok_and(|served| served.fault == None), answered))
@@ -82,7 +87,9 @@ fn serve<T: AllocGlobal + Threads + Wait + Sync + Clock>(
 fn are_lines(output: &str, count: u64) -> bool {
     let mut lines = 0u64;
     for line in output.lines() {
-        if !line.starts_with("log ") || !line.ends_with(" 200 144 /") {
+        let is_right = line.starts_with("127.0.0.1 - - [")
+            && line.ends_with(" +0000] \"GET / HTTP/1.1\" 200 3 \"-\" \"-\"");
+        if !is_right {
             return false;
         }
         lines = lines.saturating_add(1);
@@ -143,12 +150,11 @@ static FAILURES: [(Opened, Option<Verdict>, &str, u8); 5] = [
 ];
 
 /// What is told of a generation without connections.
-fn told(alloc: Global, opened: Opened, verdict: Option<Verdict>) -> Told {
+fn told(opened: Opened, verdict: Option<Verdict>) -> Told {
     Told {
         opened,
         verdict,
         totals: Totals::new(),
-        lines: Vec::new(alloc),
     }
 }
 
@@ -163,13 +169,13 @@ fn has_cause(alloc: Global, told: &Told, text: &str, status: u8) -> Result<bool,
 #[test]
 fn each_failure_has_its_cause_and_its_status(rt: HostRuntime) {
     for &(opened, verdict, text, status) in &FAILURES {
-        let told = told(rt.alloc(), opened, verdict);
+        let told = told(opened, verdict);
         assert!(rt;
             has_cause(rt.alloc(), &told, text, status) == Ok(true),
             "{text}"
         );
     }
-    let told = told(rt.alloc(), Opened::Ready, Some(Verdict::Ok));
+    let told = told(Opened::Ready, Some(Verdict::Ok));
     assert!(rt; cause_of(&told).is_none());
 }
 

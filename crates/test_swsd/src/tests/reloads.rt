@@ -10,7 +10,7 @@ use std::{fs, thread};
 use sws_daemon::serve_at;
 use sws_outbox::Outbox;
 use sws_site::Additions;
-use swsd_words::Order;
+use swsd_words::{LogFault, Order};
 
 /// How often the page is asked for until it is another.
 const TRIES: u32 = 100;
@@ -101,18 +101,22 @@ fn order_of(rt: &HostRuntime) -> io::Result<Order> {
     Ok(Order {
         folder: String::from_str(rt.alloc(), FOLDER)?,
         listen: SocketAddr::from(([127, 0, 0, 1], 0)),
+        listen_too: Vec::new(rt.alloc()),
         workers: 1,
         lanes: 3,
         accepting: 2,
         connections: 16,
         answers: 1000,
         input: 4_194_304,
+        max_files: 65_536,
+        max_bytes: 1_073_741_824,
         age: 600,
         grace: 5,
         look: 0,
         stop_file: Some(String::from_str(rt.alloc(), STOP)?),
         reload_file: Some(String::from_str(rt.alloc(), RELOAD)?),
-        log: false,
+        log: None,
+        log_fault: LogFault::Go,
         quiet: false,
         hidden: false,
         added: Additions::none(rt.alloc()),
@@ -128,9 +132,10 @@ fn serve<T: AllocGlobal + Threads + Wait + Sync + Clock>(
 ) -> io::Result<Option<Seen>> {
     let listener = TcpListener::bind(rt, order.listen)?;
     let address = listener.local_addr()?;
+    let listeners = [listener];
     let (served, seen) = thread::join(
         threads,
-        || serve_at(rt, threads, order, &listener, outbox),
+        || serve_at(rt, threads, order, &listeners, outbox),
         || see_and_stop(rt, address, STOP, RELOAD),
     );
     let seen = seen?;

@@ -43,6 +43,8 @@ fn shelf_of(rt: &HostRuntime, folder: &str, notes: &mut Notes) -> io::Result<Opt
         hidden: false,
         answers: 1000,
         input: 4_194_304,
+        max_files: 65_536,
+        max_bytes: 1_073_741_824,
         added: Additions::none(rt.alloc()),
     };
     Ok(Shelf::new(rt, origin, notes).ok())

@@ -2,7 +2,7 @@
 
 use std::alloc::Global;
 use std::net::SocketAddr;
-use swsd_words::{Order, WordsFault, read_order};
+use swsd_words::{LogFault, LogFormat, Order, WordsFault, read_order};
 
 /// The order of these words, on a machine with four processors.
 fn order(alloc: Global, words: &[&str]) -> Result<Order, WordsFault> {
@@ -29,13 +29,16 @@ fn is_plain(order: &Order) -> bool {
     order.folder.as_str() == "/var/www"
         && order.listen.port() == 8080
         && order.listen.is_ipv6()
+        && order.listen_too.is_empty()
         && (order.workers, order.lanes, order.accepting) == (1, 8, 4)
         && (order.connections, order.age, order.grace) == (1024, 600, 30)
         && (order.answers, order.input) == (1000, 4_194_304)
+        && (order.max_files, order.max_bytes) == (65_536, 1_073_741_824)
         && order.look == 1
         && order.stop_file.is_none()
         && order.reload_file.is_none()
-        && !(order.log || order.quiet || order.hidden)
+        && (order.log, order.log_fault) == (None, LogFault::Go)
+        && !(order.quiet || order.hidden)
         && order.added.headers.text().is_empty()
         && order.added.max_age.is_none()
 }
@@ -47,7 +50,7 @@ fn a_folder_alone_is_served_by_the_machines_processors(rt: HostRuntime) {
 }
 
 /// Words in any order.
-static WORDS: [&str; 28] = [
+static WORDS: [&str; 32] = [
     "swsd",
     "--listen=127.0.0.1:80",
     "--lanes",
@@ -76,18 +79,28 @@ static WORDS: [&str; 28] = [
     "--input=1",
     "--answers",
     "65535",
+    "--listen=[::1]:81",
+    "--files=1048576",
+    "--bytes",
+    "8589934592",
 ];
 
 /// Whether an order is that of these words.
 fn is_of_words(order: &Order) -> bool {
     order.listen == SocketAddr::from(([127, 0, 0, 1], 80))
+        && order.listen_too.len() == 1
+        && order
+            .listen_too
+            .first()
+            .is_some_and(|address| address.is_ipv6() && address.port() == 81)
         && (order.workers, order.lanes, order.accepting) == (64, 2, 2)
         && (order.age, order.grace) == (10, 0)
         && (order.answers, order.input) == (65_535, 1)
+        && (order.max_files, order.max_bytes) == (1_048_576, 8_589_934_592)
         && order.stop_file.as_deref() == Some("stop")
         && order.reload_file.as_deref() == Some("again")
         && order.look == 0
-        && order.log
+        && order.log == Some(LogFormat::Combined)
         && order.quiet
         && order.hidden
         && order.added.headers.text() == b"X: y\r\nVary: Accept: q\r\n".as_slice()
@@ -101,7 +114,7 @@ fn words_stand_in_any_order(rt: HostRuntime) {
 }
 
 /// Words that are refused, and how what is said of them begins.
-static REFUSED: [(&[&str], &str); 14] = [
+static REFUSED: [(&[&str], &str); 17] = [
     (
         &["swsd", "site", "--listen", "8080"],
         "error: invalid value '8080' for '--listen <ADDRESS:PORT>': expected an address with a port, as 127.0.0.1:8080 or [::]:8080\n",
@@ -150,9 +163,41 @@ static REFUSED: [(&[&str], &str); 14] = [
         &["swsd", "site", "--input", "4294967296"],
         "error: invalid value '4294967296' for '--input <BYTES>': 4294967296 is not in 1..=4294967295",
     ),
+    (
+        &["swsd", "site", "--files", "0"],
+        "error: invalid value '0' for '--files <N>': 0 is not in 1..=1048576",
+    ),
+    (
+        &["swsd", "site", "--bytes", "8589934593"],
+        "error: invalid value '8589934593' for '--bytes <BYTES>': 8589934593 is not in 1..=8589934592",
+    ),
+    (
+        &["swsd", "site", "--log-format", "json"],
+        "error: invalid value 'json' for '--log-format <FORMAT>'\n  [possible values: combined, short]",
+    ),
     (&["swsd"], ""),
     (&["swsd", "site", "--frob"], ""),
 ];
+
+/// What is said of so many addresses.
+fn fault_of_addresses(alloc: Global, count: usize) -> Option<String> {
+    let mut words = Vec::new(alloc);
+    words.push("swsd").ok()?;
+    words.push("site").ok()?;
+    for _ in 0..count {
+        words.push("--listen=[::]:0").ok()?;
+    }
+    fault(alloc, &words)
+}
+
+#[test]
+fn sixteen_addresses_are_enough(rt: HostRuntime) {
+    assert!(rt; fault_of_addresses(rt.alloc(), 16).is_none());
+    let many = fault_of_addresses(rt.alloc(), 17);
+    assert!(rt;
+        many.is_some_and(|said| said.as_str().ends_with("it may stand 16 times at most\n"))
+    );
+}
 
 /// Whether these words are refused, and what is said of them begins so.
 fn is_refused(alloc: Global, words: &[&str], begins: &str) -> bool {
@@ -172,6 +217,32 @@ fn a_fault_names_the_word_and_what_was_expected(rt: HostRuntime) {
         listen.is_some_and(|said| said.len() == REFUSED[0].1.len()),
         "nothing else"
     );
+}
+
+/// The words that ask for a log, and the format of its lines.
+static FORMATS: [(&[&str], Option<LogFormat>); 4] = [
+    (&["swsd", "site", "--log"], Some(LogFormat::Combined)),
+    (
+        &["swsd", "--log", "site", "--log-format", "short"],
+        Some(LogFormat::Short),
+    ),
+    (
+        &["swsd", "site", "--log-format=combined"],
+        Some(LogFormat::Combined),
+    ),
+    (&["swsd", "site"], None),
+];
+
+/// Whether these words ask for a log in this format.
+fn has_format(alloc: Global, words: &[&str], format: Option<LogFormat>) -> bool {
+    order(alloc, words).is_ok_and(|order| order.log == format)
+}
+
+#[test]
+fn a_log_is_combined_unless_another_format_is_asked_for(rt: HostRuntime) {
+    for (row, &(words, format)) in FORMATS.iter().enumerate() {
+        assert!(rt; has_format(rt.alloc(), words, format), "row {row}");
+    }
 }
 
 /// Whether these words ask for what is told and ends well.

@@ -1,10 +1,9 @@
-//! Worked rows: a script as text, and what is written of it.
+//! What the run of a script leaves, and connections of which each waits for the other.
 ghost use Rattle.std.specs.Prelude.{◌≡◌, ◌≤◌, ◌+◌, None, length};
 ghost use Rattle.mely_history.specs.Setup.{first_out_of_range};
 ghost use Rattle.sws_script.specs.Inputs.{IsInput};
 
 use super::meeting::{MeetingConn, Room};
-use super::scripts::{SHORT, SHORT_SHOWN, STOLEN, STOLEN_SHOWN, THREE, THREE_SHOWN};
 use mely_event::Handlers;
 use mely_history::{Setup, Shape};
 use std::process::Abort;
@@ -12,24 +11,25 @@ use std::sync::Wait;
 use std::thread::Threads;
 use sws_conn::End;
 use sws_link::{MemSink, Sink, SureFolder, SureSink};
-use sws_replay::{RunFault, replay, replay_by_schedule, replay_talks, run_script};
+use sws_replay::{RunFault, replay, replay_talks, run_script};
 use sws_script::{Input, parse};
 use sws_site::Site;
 
-/// The shape that a replay has where nothing is said.
-const PLAIN: Shape = Shape {
-    cores: 1,
-    shards: 1,
-    batch: 10,
-    steal_cost: 20,
-    group: 4,
-};
+/// The script of three connections: a request for the first file, one for the empty file, and none.
+const THREE: &[u8] =
+    b"sws-script 1\nconn\nsend GET / HTTP/1.1~Host: x~~\nconn\nsend GET /empty.css HTTP/1.1~Host: x~~\nconn\n";
+
+/// Their transcript.
+const THREE_SHOWN: &[u8] =
+    b"conn 0 done 79\n| HTTP/1.1 200 OK~\n| Server: sws~\n| Content-Type: text/html~\n| Content-Length: 3~\n| ~\n| hi\\n\nconn 1 done 75\n| HTTP/1.1 200 OK~\n| Server: sws~\n| Content-Type: text/css~\n| Content-Length: 0~\n| ~\nconn 2 done 0\n";
 
 /// Two workers, which steal what is worth more than 5.
 const TWO: Shape = Shape {
     cores: 2,
+    shards: 1,
+    batch: 10,
     steal_cost: 5,
-    ..PLAIN
+    group: 4,
 };
 
 /// A site of two files.
@@ -110,56 +110,6 @@ fn leaves(
     run.served.len() == wanted.len()
 }
 
-/// Whether the replay of a text by its schedule writes this.
-fn is_scheduled(rt: &(impl AllocGlobal + Abort + Wait), text: &[u8], expected: &[u8]) -> bool {
-    let input = read(rt, text, true, &TWO);
-    let mut sink = SureSink::new(rt.alloc());
-    let wrote = replay_by_schedule(rt, rt.alloc(), &site(rt), &TWO, &input, false, &mut sink);
-    wrote == Ok(()) && sink.written() == expected
-}
-
-/// Whether a text is the transcript of three connections and that once more, with a journal behind it.
-fn is_twice(written: &[u8]) -> bool {
-    let Some(again) = written.strip_prefix(THREE_SHOWN) else {
-        return false;
-    };
-    match again.strip_prefix(THREE_SHOWN) {
-        Some(journal) => journal.starts_with(b"shard 0 "),
-        None => false,
-    }
-}
-
-/// Whether the script of three connections is written so on this shape: without its journal, and behind
-/// that once more with it.
-fn three_are_written(
-    rt: &(impl AllocGlobal + Abort + Threads + Wait + Sync),
-    cores: u16,
-    shards: u16,
-) -> bool {
-    let shape = Shape {
-        cores,
-        shards,
-        ..PLAIN
-    };
-    let mut sink = SureSink::new(rt.alloc());
-    let wrote = replayed(rt, THREE, &shape, false, &mut sink);
-    let is_first = wrote == Ok(()) && sink.written() == THREE_SHOWN;
-    let wrote = replayed(rt, THREE, &shape, true, &mut sink);
-    is_first && wrote == Ok(()) && is_twice(sink.written())
-}
-
-#[test]
-fn three_connections_are_written_so_whatever_the_workers_are(rt: HostRuntime) {
-    for shards in [1, 4] {
-        for cores in [1, 2, 8] {
-            assert!(rt;
-                three_are_written(&rt, cores, shards),
-                "{cores} and {shards}"
-            );
-        }
-    }
-}
-
 /// What the script of three connections leaves.
 static THREE_LEAVE: [Left; 3] = [
     (Some(End::Done), 27, 79),
@@ -172,16 +122,11 @@ fn a_run_leaves_what_was_served(rt: HostRuntime) {
     assert!(rt; leaves(&rt, THREE, &THREE_LEAVE));
 }
 
-#[test]
-fn worked_schedules_write_their_texts(rt: HostRuntime) {
-    assert!(rt; is_scheduled(&rt, STOLEN, STOLEN_SHOWN));
-    assert!(rt; is_scheduled(&rt, SHORT, SHORT_SHOWN));
-}
-
 /// Whether a replay with its journal tells of a sink that fails at its second call, and leaves a front of
 /// the transcript there.
 fn is_sink_told(rt: &(impl AllocGlobal + Abort + Threads + Wait + Sync)) -> bool {
-    let failing = Vec::from_slice(rt.alloc(), &[2]).expect(rt, "memory");
+    let mut failing = Vec::new(rt.alloc());
+    failing.push(2).expect(rt, "memory");
     let mut sink = MemSink::new(rt.alloc(), failing);
     let wrote = replayed(rt, THREE, &TWO, true, &mut sink);
     wrote == Err(RunFault::Write)

@@ -1,177 +1,129 @@
-//! The command `serve`.
+//! The command `serve` for clients of whom one waits for the other.
 ghost use Rattle.std.specs.Prelude.{IfOk};
 ghost use Rattle.sws_link.specs.MemWorlds.{IsInitialMemLink};
 
 use super::meeting::{Meeting, Room};
-use super::{INDEX, INDEX_SENT, bytes_of, one_call, run, small_files};
 use std::alloc::{AllocError, Global};
 use std::sync::Wait;
 use std::thread::Threads;
-use sws_conn::End;
-use sws_link::{Link, LinkItem, MemLink, MemWorld, SureFolder, SureSink, SureSource, World};
-use sws_top::{Outcome, TopFault};
+use sws_link::{
+    Folder, LinkItem, MemLink, MemWorld, Sink, Source, SureFolder, SureSink, SureSource, World,
+};
+use sws_top::{Outcome, sws};
 
-/// What is written where both clients were served.
+/// Words that serve two connections on two workers.
+static WORDS: [&str; 10] = [
+    "serve",
+    "S",
+    "--port",
+    "1",
+    "--connections",
+    "2",
+    "--workers",
+    "2",
+    "--cost",
+    "0",
+];
+
+/// What each client sends, what it is sent, and what is written where both were served.
+pub(super) const REQUEST: &[u8] = b"GET / HTTP/1.1\r\nHost: x\r\n\r\n";
+
+pub(super) const RESPONSE: &[u8] =
+    b"HTTP/1.1 200 OK\r\nServer: sws\r\nContent-Type: text/html\r\nContent-Length: 3\r\n\r\nhi\n";
+
 pub(super) const SUMMARY: &[u8] = b"connections 2 done 2 idle 0 fault 0\nread 54 written 158\n";
 
-/// A link whose client sends this text.
-fn asking(alloc: Global, text: &'static str) -> Result<MemLink, AllocError>
+/// These words.
+pub(super) fn words_of(alloc: Global, line: &[&str]) -> Result<Vec<String>, AllocError> {
+    let mut words = Vec::new(alloc);
+    for word in line {
+        words.push(String::from_str(alloc, word)?)?;
+    }
+    Ok(words)
+}
+
+/// A site of an index alone.
+pub(super) fn small_site(alloc: Global) -> Result<SureFolder, AllocError> {
+    let name = b"index.html".to_vec(alloc)?;
+    let file = (name, b"hi\n".to_vec(alloc)?);
+    Ok(SureFolder::new(alloc, vec![in alloc; file]?))
+}
+
+/// A link whose client sends the request.
+fn asking(alloc: Global) -> Result<MemLink, AllocError>
     ensures { IfOk result IsInitialMemLink }
 {
-    let bytes = bytes_of(alloc, &[(text, 1)])?;
+    let bytes = REQUEST.to_vec(alloc)?;
     let items = vec![in alloc; LinkItem::Bytes(bytes)]?;
     Ok(MemLink::new(alloc, items, None, None, Vec::new(alloc)))
 }
 
-/// A world of two such links, which fails at this call, where it is one of its calls.
-fn two_clients(alloc: Global, text: &'static str, failing: u32) -> Result<MemWorld, AllocError> {
-    let first = asking(alloc, text)?;
-    let second = asking(alloc, text)?;
+/// A world of two such links.
+fn two_clients(alloc: Global) -> Result<MemWorld, AllocError> {
+    let first = asking(alloc)?;
+    let second = asking(alloc)?;
     let links = vec![in alloc; first, second]?;
-    Ok(MemWorld::new(links, one_call(alloc, failing)))
+    Ok(MemWorld::new(links, Vec::new(alloc)))
 }
 
-/// Serves the small site to the links of a world by these words: how that ended, and what was
-/// written.
-fn serve<T: AllocGlobal + Threads + Wait + Sync, W: World + Drop + Send>(
-    rt: &T,
-    line: &str,
-    world: W,
-) -> Result<(Outcome<W>, Vec<u8>), AllocError>
+/// Runs these words, and says nothing of it, so that no proof of a test carries the contract of `sws`.
+pub(super) fn run<
+    T: AllocGlobal + Threads + Wait + Sync,
+    F: Folder,
+    R: Source,
+    W: World + Drop + Send,
+    O: Sink,
+>(rt: &T, words: &[String], folder: &mut F, source: &mut R, world: W, sink: &mut O) -> Outcome<W>
 where
     W::Link: Send,
 {
-    let alloc = rt.alloc();
-    let mut folder = SureFolder::new(alloc, small_files(alloc)?);
-    let mut source = SureSource::new(Vec::new(alloc));
-    let mut sink = SureSink::new(alloc);
-    let outcome = run(rt, line, &mut folder, &mut source, world, &mut sink)?;
-    Ok((outcome, sink.written().to_vec(alloc)?))
+    sws(rt, words, folder, source, world, sink)
 }
 
-/// What has become of two clients.
-#[derive(Drop)]
-pub(super) struct Clients {
-    status: u8,
-    pub(super) fault: Option<TopFault>,
-
-    /// Whether the world was opened, and whether it was handed back.
-    opened: bool,
-    back: bool,
-    pub(super) written: Vec<u8>,
-
-    /// How the connection of each link that was accepted has ended, and what was written to it.
-    served: Vec<(Option<End>, Vec<u8>)>,
-}
-
-impl Clients {
-    /// Whether so many were served, and each of them was written this and is done.
-    pub(super) fn are_served(&self, count: usize, sent: &[u8]) -> bool {
-        for (end, written) in &self.served {
-            if *end != Some(End::Done) || written.as_slice() != sent {
-                return false;
-            }
-        }
-        self.served.len() == count
-    }
-}
-
-/// How each connection of a run has ended that has a link, and what was written to it.
-fn sent_by(
-    alloc: Global,
-    outcome: &Outcome<MemWorld>,
-) -> Result<Vec<(Option<End>, Vec<u8>)>, AllocError> {
-    let mut sent = Vec::new(alloc);
-    if let Some(ended) = &outcome.ended {
-        for conn in &ended.served {
-            if let Some(link) = &conn.link {
-                sent.push((conn.end, link.written().to_vec(alloc)?))?;
-            }
-        }
-    }
-    Ok(sent)
-}
-
-/// Serves two clients who send this text by these words, in a world that fails at this call, where it
-/// is one of its calls.
-pub(super) fn serve_two<T: AllocGlobal + Threads + Wait + Sync>(
+/// Whether both clients of a world are served.
+fn are_served<T: AllocGlobal + Threads + Wait + Sync, W: World + Drop + Send>(
     rt: &T,
-    line: &str,
-    text: &'static str,
-    failing: u32,
-) -> Result<Clients, AllocError> {
-    let alloc = rt.alloc();
-    let (outcome, written) = serve(rt, line, two_clients(alloc, text, failing)?)?;
-    let served = sent_by(alloc, &outcome)?;
-    Ok(Clients {
-        status: outcome.status,
-        fault: outcome.fault,
-        opened: outcome.ended.is_some(),
-        back: outcome.world.is_some(),
-        written,
-        served,
-    })
-}
-
-/// The call of a world that fails, the status of the run, and how many clients are served.
-static FAILING: [(u32, u8, usize); 6] = [
-    (1, 6, 0),
-    (2, 6, 0),
-    (3, 6, 0),
-    (4, 6, 1),
-    (5, 6, 1),
-    (6, 0, 2),
-];
-
-/// Whether a run for two clients who ask for the index ends so in a world that fails at this call.
-fn ends_so<T: AllocGlobal + Threads + Wait + Sync>(
-    rt: &T,
-    failing: u32,
-    status: u8,
-    served: usize,
-) -> Result<bool, AllocError> {
-    let clients = serve_two(rt, "serve S --port 8080 --connections 2", INDEX, failing)?;
-    let sent = bytes_of(rt.alloc(), &[(INDEX_SENT, 1)])?;
-    let written = if status == 0 { SUMMARY } else { b"" };
-    Ok(
-        clients.status == status
-            && clients.opened == (failing != 1)
-            && clients.back == (failing == 1)
-            && clients.written.as_slice() == written
-            && clients.are_served(served, &sent),
-    )
-}
-
-#[test]
-fn a_world_that_fails_ends_the_run(rt: HostRuntime) {
-    for &(failing, status, served) in &FAILING {
-        assert!(rt;
-            ends_so(&rt, failing, status, served) == Ok(true),
-            "call {failing}"
-        );
-    }
+    words: &[String],
+    folder: &mut SureFolder,
+    world: W,
+) -> bool
+where
+    W::Link: Send,
+{
+    let mut source = SureSource::new(Vec::new(rt.alloc()));
+    let mut sink = SureSink::new(rt.alloc());
+    let outcome = run(rt, words, folder, &mut source, world, &mut sink);
+    outcome.status == 0 && sink.written() == SUMMARY
 }
 
 /// Whether two clients are served in a room by these words.
-fn is_served_in<T: AllocGlobal + Threads + Wait + Sync>(
+fn are_served_in<T: AllocGlobal + Threads + Wait + Sync>(
     rt: &T,
     room: &Room<'_>,
-    line: &str,
+    words: &[String],
+    folder: &mut SureFolder,
 ) -> Result<bool, AllocError> {
     let world = Meeting {
-        world: two_clients(rt.alloc(), INDEX, 0)?,
+        world: two_clients(rt.alloc())?,
         room,
         given: 0,
     };
-    let (outcome, written) = serve(rt, line, world)?;
-    Ok(outcome.status == 0 && written.as_slice() == SUMMARY)
+    Ok(are_served(rt, words, folder, world))
+}
+
+/// Whether two clients are served in a room.
+fn are_served_together<T: AllocGlobal + Threads + Wait + Sync>(
+    rt: &T,
+    room: &Room<'_>,
+) -> Result<bool, AllocError> {
+    let words = words_of(rt.alloc(), &WORDS)?;
+    are_served_in(rt, room, &words, &mut small_site(rt.alloc())?)
 }
 
 /// One worker alone never gets the first client's request.
 #[test]
 fn two_workers_serve_at_once(rt: HostRuntime) {
     let room = Room::new(&rt);
-    let line = "serve S --port 1 --connections 2 --workers 2 --cost 0";
-    assert!(rt; is_served_in(&rt, &room, line) == Ok(true));
+    assert!(rt; are_served_together(&rt, &room) == Ok(true));
     assert!(rt; !room.was_missed());
 }

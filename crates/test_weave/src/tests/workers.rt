@@ -78,7 +78,8 @@ fn comes_so(
     passes: &[Option<Pass>],
 ) -> Result<bool, Memory> {
     let mut script = script_of(rt.alloc(), calls)?;
-    let victims = [1].to_vec(rt.alloc())?;
+    let mut victims = Vec::new(rt.alloc());
+    victims.push(1)?;
     let mut worker = Worker::new(rt.alloc(), 0, victims, 2)?;
     let app = Forwarding::new();
     let is_followed = follows(&mut worker, &mut script, &app, steps) && script.is_done();
@@ -482,7 +483,9 @@ fn may_cross<T: Send>(_value: &T) {}
 
 /// Whether a worker rests and wakes without anything in it.
 fn is_at_rest(rt: &(impl AllocGlobal + Abort)) -> Result<bool, Memory> {
-    let victims = [2, 0].to_vec(rt.alloc())?;
+    let mut victims = Vec::new(rt.alloc());
+    victims.push(2)?;
+    victims.push(0)?;
     let worker: Worker<Ledger, u8> = Worker::new(rt.alloc(), 3, victims, 1000)?;
     let is_new = !worker.is_halted() && worker.lost().is_empty();
     assert!(rt; worker.is_free());

@@ -1,4 +1,4 @@
-use Rattle.std.proofs.Common.{◌≡◌, ◌+◌, ◌++◌, ◌∷◌, [], length, arith, refl, sym, ap, ◌∙◌, subst}
+use Rattle.std.proofs.Common.{◌+◌, ◌++◌, ◌∷◌, [], refl, sym, ap, ◌∙◌, subst}
 use Rattle.mely_shard.specs.Shard.{IsOwn}
 use Rattle.mely_shard.proofs.TurnLemmas.{turn_ran}
 use Rattle.measure_shard.proofs.event_loop.run_and_finish.Goals as goal

@@ -1,8 +1,9 @@
-use Rattle.std.proofs.Common.{◌≡◌, ◌+◌, ◌++◌, ◌∷◌, [], length, length-append, ap, ◌∙◌, sym, subst, arith, append_assoc}
+use Rattle.std.proofs.Common.{◌≡◌, ◌+◌, ◌++◌, ◌∷◌, [], length, length-append, map, ap, ◌∙◌, sym, subst, arith, append_assoc}
+use Rattle.std.proofs.lemmas.List.{map-append}
 use Rattle.std.specs.Prelude.{slice_get}
 use Rattle.std.specs.Vec.Iter.{into_iter_items}
 use Rattle.mely_actor.specs.Received.{AreMade}
-use Rattle.mely_actor.proofs.StatesLemmas.{middle_at, more_made}
+use Rattle.mely_actor.proofs.StatesLemmas.{all_yielded, middle_at, more_made}
 use Rattle.mely_actor.proofs.running.make_states.Goals as goal
 
 pub values-preserved : goal.values-preserved
@@ -27,4 +28,10 @@ values-preserved g c =
         nothing = ap (λ state. state.waiting) c.new.ensures;
         begins = subst (λ v. g.A.Actor.kept c.args.plan.now.actor (record { 0 = c.values.number }) [] [] v) (sym (ap (λ state. state.value) c.new.ensures)) (c.requires.begun.each c.values.number value here);
       }));
+      values = ap (map (λ state. state.value)) c.in_ok-push.ensures.items ∙ map-append (λ state. state.value) c.values.states.items (c.new.result ∷ []) ∙ ap (λ l. l ++ c.new.result.value ∷ []) at.values ∙ ap (λ v. c.values.yielded ++ v ∷ []) (ap (λ state. state.value) c.new.ensures);
     }
+
+pub returns-clause-values : goal.returns-clause-values
+returns-clause-values g c =
+    let at = c.values.invariant in
+    at.values ∙ all_yielded c.values.yielded (into_iter_items c.values.value-iterator) c.args.values.items _ at.split at.left c.in-None.ensures.steps.0

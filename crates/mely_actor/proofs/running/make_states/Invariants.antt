@@ -1,4 +1,4 @@
-use Rattle.std.proofs.Common.{◌≡◌, ◌++◌, length}
+use Rattle.std.proofs.Common.{◌≡◌, ◌++◌, length, map}
 use Rattle.std.specs.Vec.Iter.{into_iter_items, into_iter_len}
 use Rattle.mely_actor.specs.Received.{AreMade}
 use Rattle.mely_actor.proofs.running.make_states.Given as goal
@@ -9,4 +9,5 @@ invariant-values g l = record {
   left : into_iter_len l.value-iterator ≡ length (into_iter_items l.value-iterator);
   number : l.number ≡ length l.yielded;
   made : AreMade g.A.Actor l.plan l.number l.states.items;
+  values : map (λ state. state.value) l.states.items ≡ l.yielded;
 }

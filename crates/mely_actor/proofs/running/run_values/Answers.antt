@@ -9,11 +9,12 @@ use Rattle.mely_actor.specs.declared.load.Load.TheVariants.{Posts}
 use Rattle.mely_actor.specs.declared.load.Plan.{Plan}
 use Rattle.mely_actor.specs.KeptState.{KeptState}
 use Rattle.mely_actor.specs.Loads.{Serves}
-use Rattle.mely_actor.specs.Received.{AreLeft, AreMade}
+use Rattle.mely_actor.specs.Received.{AreLeft, AreMade, AreReached}
 use Rattle.mely_actor.proofs.KeptLemmas.{are_initial, kept_of}
+use Rattle.mely_actor.proofs.ReachedLemmas.{none_reached, reached_in_order, reached_so_far}
 use Rattle.mely_actor.proofs.StatesLemmas.{left_of, nothing_left}
 use Rattle.mely_actor.proofs.running.run_values.Goals as goal
-use Rattle.mely_actor.proofs.running.run_values.Goals.{In-Ok-make_states}
+use Rattle.mely_actor.proofs.running.run_values.Goals.{After-new, In-Ok-make_states}
 
 pub run_states-requires-send-S : goal.run_states-requires-send-S
 run_states-requires-send-S g c κs within =
@@ -23,14 +24,14 @@ run_states-requires-send-S g c κs within =
 
 -- the states are those of all colours
 made : (g : _) (c : In-Ok-make_states g) → AreMade g.A.Actor (record { actor = c.args.actor; posts = c.args.posts }) (colours_of c.args.setup.now) c.in-Ok-make_states.states.items
-made g c = subst (λ n. AreMade g.A.Actor (record { actor = c.args.actor; posts = c.args.posts }) n c.in-Ok-make_states.states.items) (c.requires.begun.many ∙ sym c.requires.colours) c.in-Ok-make_states.ensures
+made g c = subst (λ n. AreMade g.A.Actor (record { actor = c.args.actor; posts = c.args.posts }) n c.in-Ok-make_states.states.items) (c.requires.begun.many ∙ sym c.requires.colours) c.in-Ok-make_states.ensures.made
 
 pub run_states-requires-clause-first : goal.run_states-requires-clause-first
 run_states-requires-clause-first g c = λ lifetimes outlives. are_initial g.A.Actor _ (λ s. refl) (λ s. refl) (λ s. refl) (record { actor = c.args.actor; posts = c.args.posts }) c.args.setup.now c.in-Ok-make_states.states.items (made g (goal.at.run_states-requires-clause-first g c).In-Ok-make_states)
 
 pub run_states-requires-clause-served : goal.run_states-requires-clause-served
 run_states-requires-clause-served g c = λ lifetimes outlives state at.
-    let of_plan = (c.in-Ok-make_states.ensures.each 0 state at).of_plan in
+    let of_plan = (c.in-Ok-make_states.ensures.made.each 0 state at).of_plan in
     let colours = c.requires.colours in
     record {
       colours = omega (arith, colours);
@@ -40,7 +41,7 @@ run_states-requires-clause-served g c = λ lifetimes outlives state at.
 
 pub run_states-requires-clause-fits : goal.run_states-requires-clause-fits
 run_states-requires-clause-fits g c = λ lifetimes outlives state at.
-    let of_plan = (c.in-Ok-make_states.ensures.each 0 state at).of_plan in
+    let of_plan = (c.in-Ok-make_states.ensures.made.each 0 state at).of_plan in
     let some : 1 ≤ colours_of c.args.setup.now = c.args.setup.now.colours_in.0 in
     let rows = c.requires.rows in
     let colours = c.requires.colours in
@@ -66,7 +67,7 @@ first g c =
     let some : 1 ≤ colours_of c.args.setup.now = c.args.setup.now.colours_in.0 in
     let many = (made g c).many in
     let one = get_there c.in-Ok-make_states.states.items 0 (omega (arith, some, many)) in
-    record { state = one.0; is = one.1; of_plan = (c.in-Ok-make_states.ensures.each 0 one.0 one.1).of_plan }
+    record { state = one.0; is = one.1; of_plan = (c.in-Ok-make_states.ensures.made.each 0 one.0 one.1).of_plan }
 
 pub returns-then-not-are_well-clause-left : goal.returns-then-not-are_well-clause-left
 returns-then-not-are_well-clause-left g c =
@@ -108,3 +109,32 @@ returns-in-Err-CutShort-clause-left g c =
 
 pub returns-in-Err-NotStarted-clause-left : goal.returns-in-Err-NotStarted-clause-left
 returns-in-Err-NotStarted-clause-left g c = subst (AreLeft g.A.Actor c.args.actor (g.A.Actor.colours_of c.args.actor)) (sym c.new.ensures.items) (nothing_left g.A.Actor c.args.actor (g.A.Actor.colours_of c.args.actor))
+
+-- no values are handed back
+none : (g : _) (c : After-new g) → AreReached g.A.Actor c.args.actor c.args.values.items c.new.result.items
+none g c = subst (AreReached g.A.Actor c.args.actor c.args.values.items) (sym c.new.ensures.items) (none_reached g.A.Actor c.args.actor c.args.values.items)
+
+pub returns-in_default-clause-reached : goal.returns-in_default-clause-reached
+returns-in_default-clause-reached g c = none g (goal.at.returns-in_default-clause-reached g c).After-new
+
+pub returns-in_default-with_capacity-clause-reached : goal.returns-in_default-with_capacity-clause-reached
+returns-in_default-with_capacity-clause-reached g c = none g (goal.at.returns-in_default-with_capacity-clause-reached g c).After-new
+
+pub returns-in_default-make_states-clause-reached : goal.returns-in_default-make_states-clause-reached
+returns-in_default-make_states-clause-reached g c = none g (goal.at.returns-in_default-make_states-clause-reached g c).After-new
+
+pub returns-in-Err-NotStarted-clause-reached : goal.returns-in-Err-NotStarted-clause-reached
+returns-in-Err-NotStarted-clause-reached g c = none g (goal.at.returns-in-Err-NotStarted-clause-reached g c).After-new
+
+pub returns-then-not-are_well-clause-reached : goal.returns-then-not-are_well-clause-reached
+returns-then-not-are_well-clause-reached g c =
+    let begun = first g (goal.at.returns-then-not-are_well-clause-reached g c).In-Ok-make_states in
+    reached_in_order g.A.Actor (record { actor = c.args.actor; posts = c.args.posts }) c.args.setup.now _ (λ s. refl) (λ s. refl) _ _ _ (λ before event load after puts ran. ran) _ c.args.values.items c.in-Ok-make_states.states.items _ c.in-Ok-run_states.ended.states.items c.take_left.result.items
+    (colours_of c.args.setup.now) (made g (goal.at.returns-then-not-are_well-clause-reached g c).In-Ok-make_states) c.in-Ok-make_states.ensures.values c.take_left.ensures begun.state.plan begun.of_plan (c.in-Ok-run_states.ensures.in_order begun.state begun.is)
+
+pub returns-in-Err-CutShort-clause-reached : goal.returns-in-Err-CutShort-clause-reached
+returns-in-Err-CutShort-clause-reached g c =
+    let begun = first g (goal.at.returns-in-Err-CutShort-clause-reached g c).In-Ok-make_states in
+    let order = rw c.in-Err-CutShort.field-0-is at c.in-Err-CutShort.ensures.order_so_far in
+    reached_so_far g.A.Actor (record { actor = c.args.actor; posts = c.args.posts }) c.args.setup.now _ (λ s. refl) (λ s. refl) _ _ _ (λ before event load after puts ran. ran) _ c.args.values.items c.in-Ok-make_states.states.items _ c.in-Err-CutShort.unfinished.states.items c.take_left-in-Err-CutShort.result.items
+    (colours_of c.args.setup.now) (made g (goal.at.returns-in-Err-CutShort-clause-reached g c).In-Ok-make_states) c.in-Ok-make_states.ensures.values c.take_left-in-Err-CutShort.ensures _ _ begun.state.plan begun.of_plan (order begun.state begun.is)

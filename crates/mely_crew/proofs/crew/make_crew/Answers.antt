@@ -26,10 +26,10 @@ pub returns-clause-callers : goal.returns-clause-callers
 returns-clause-callers g c = c.in_ok-fleet.ensures.of_count
 
 pub returns-clause-cores : goal.returns-clause-cores
-returns-clause-cores g c = c.in_ok-seats.ensures.many ∙ ap (λ (k : Setup). (shape_of k).cores) c.in_ok-fleet.ensures.of_setup
+returns-clause-cores g c = c.in-Ok.ensures.many ∙ ap (λ (k : Setup). (shape_of k).cores) c.in_ok-fleet.ensures.of_setup
 
 pub returns-clause-seats : goal.returns-clause-seats
-returns-clause-seats g c = c.in_ok-seats.ensures.each
+returns-clause-seats g c = c.in-Ok.ensures.each
 
 pub returns-clause-framed : goal.returns-clause-framed
 returns-clause-framed g c = λ state at. c.in_ok-fleet.ensures.framed 0 state at
@@ -50,7 +50,7 @@ pub returns-clause-room : goal.returns-clause-room
 returns-clause-room g c = (c.in_ok-room.ensures.setup, c.in_ok-room.ensures.passes)
 
 pub returns-clause-fresh : goal.returns-clause-fresh
-returns-clause-fresh g c = c.in_ok-seats.ensures.fresh
+returns-clause-fresh g c = c.in-Ok.ensures.fresh
 
 pub returns-clause-numbered : goal.returns-clause-numbered
 returns-clause-numbered g c =

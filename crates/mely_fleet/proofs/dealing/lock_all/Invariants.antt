@@ -1,4 +1,4 @@
-use Rattle.std.proofs.Common.{◌≡◌, ◌<◌, ◌++◌, [], ℕ, Some, length, get_or}
+use Rattle.std.proofs.Common.{◌≡◌, ◌<◌, ◌++◌, ℕ, Some, length, get_or}
 use Rattle.std.specs.Prelude.{slice_get}
 use Rattle.std.specs.Vec.Iter.{into_iter_items, into_iter_len}
 use Rattle.mely_lock.specs.Words.{initial_value}
@@ -6,19 +6,13 @@ use Rattle.mely_fleet.specs.Rows.{HavePasses}
 use Rattle.mely_fleet.specs.Dealing.{IsInitialRow}
 use Rattle.mely_fleet.proofs.dealing.lock_all.Given as goal
 
-abbrev pub invariant-rows : goal.invariant-rows
-invariant-rows g l = record {
-  many : length l.rows.items ≡ l._number;
-  each : (n : ℕ) (d : _) → n < length l.rows.items → (get_or l.rows.items n d).items ≡ [];
-}
-
 abbrev pub invariant-locks : goal.invariant-locks
 invariant-locks g l = record {
   split : l.yielded ++ into_iter_items l.value-iterator ≡ l.fn.values.items;
   left : into_iter_len l.value-iterator ≡ length (into_iter_items l.value-iterator);
   many : length l.rows.items ≡ l.passes;
   locks : length l.locks.items ≡ length l.yielded;
-  rows : (n : ℕ) (d : _) → n < length l.rows.items → IsInitialRow g.V.Kept.frame_of l.locks.items n (get_or l.rows.items n d).items;
+  rows : (n : ℕ) (d : _) → n < l.passes → IsInitialRow g.V.Kept.frame_of l.locks.items n (get_or l.rows.items n d).items;
   frames : (k : ℕ) (lock : _) (value : _) → slice_get l.locks.items k ≡ Some lock → slice_get l.yielded k ≡ Some value → g.V.Kept.frame_of (initial_value lock) ≡ g.V.Kept.frame_of value;
   dealt : HavePasses l.passes l.locks.items;
 }

@@ -36,6 +36,15 @@ cells-preserved g c =
           each_push (IsFresh c.args.cells.items) c.cells.parts.items (part.Cell cell) (length c.cells.yielded + 1) many at.fresh (omega arith, middle_of c.cells.yielded (into_iter_items c.next.new.self) c.args.cells.items cell (length c.cells.yielded + 1 - 1) (rw (← steps) at.split) (omega arith)) number one (rw (← pushed) there);
     }
 
+pub returns-clause-many : goal.returns-clause-many
+returns-clause-many g c =
+    let at = c.cells.invariant in
+    let all = ap length (all_yielded c.cells.yielded (into_iter_items c.cells.cell-iterator) c.args.cells.items _ at.split at.left c.in-None.ensures.steps.0) in
+    let many = at.many in
+    let clients = c.in_ok-add_clients.ensures.many in
+    let cells = c.requires in
+    omega (arith, all, many, clients, cells)
+
 pub returns-clause-fresh : goal.returns-clause-fresh
 returns-clause-fresh g c =
     let at = c.cells.invariant in

@@ -1,17 +1,15 @@
-use Rattle.std.proofs.Common.{[], ap}
-use Rattle.mely_net.specs.Clients.{shown_client}
-use Rattle.mely_net.specs.Messages.{requests_sent}
-use Rattle.mely_net.proofs.PartLemmas.{connection_goes}
-use Rattle.mely_net.proofs.TalkLemmas.{keeps_none}
+use Rattle.std.proofs.Common.{sym, ◌∙◌}
+use Rattle.mely_net.specs.Clients.{asks_of}
+use Rattle.mely_net.proofs.PartLemmas.{connection_goes, connection_stays, not_own, own_client}
 use Rattle.mely_net.proofs.serving.at_client.Goals as goal
 
-pub returns-then-get-clause-kept : goal.returns-then-get-clause-kept
-returns-then-get-clause-kept g c = λ received sent kept.
-    connection_goes (g.S.Service.rules_of c.args.service.now) g.W.Link.Link c.args.colour received sent c.go.new.sends c.args.message c.args.client.now c.go.new.client (shown_client {l = g.W.Link.Link} c.get.new.client) c.get.ensures.gets c.go.ensures.sends kept
+pub returns-then-is_for_client-clause-kept : goal.returns-then-is_for_client-clause-kept
+returns-then-is_for_client-clause-kept g c = λ received sent kept.
+    connection_goes (g.S.Service.rules_of c.args.service.now) g.W.Link.Link c.args.colour received sent c.send_turn.new.sends c.args.message c.args.client.now c.act-turn.new.client (asks_of c.act-turn.result) c.act-turn.ensures.gets c.send_turn.ensures.sent c.act-turn.ensures.there kept
 
-pub returns-else-get-clause-kept : goal.returns-else-get-clause-kept
-returns-else-get-clause-kept g c = λ received sent kept.
-    let rules = g.S.Service.rules_of c.args.service.now in
-    let view = shown_client {l = g.W.Link.Link} c.get.new.client in
-    connection_goes rules g.W.Link.Link c.args.colour received sent c.args.sends.now c.args.message c.args.client.now c.get.new.client view c.get.ensures.gets
-    (record { asks = []; keeps = keeps_none rules view; sent = ap requests_sent c.requires.empty; there = tt }) kept
+pub returns-else-is_for_client-clause-kept : goal.returns-else-is_for_client-clause-kept
+returns-else-is_for_client-clause-kept g c = λ received sent kept.
+    connection_stays (g.S.Service.rules_of c.args.service.now) g.W.Link.Link c.args.colour received sent c.args.sends.now c.args.message c.args.client.now (not_own c.args.message (sym c.is_for_client.ensures ∙ c.if-is_for_client.false)) c.requires.empty kept
+
+pub send_turn-requires-clause-own : goal.send_turn-requires-clause-own
+send_turn-requires-clause-own g c = own_client g.W.World.tells g.W.Link.Link.tells g.W.Link.Link.is_shut c.args.layout.now.cells c.args.layout.now.clients c.args.colour c.args.message (sym c.is_for_client.ensures ∙ c.if-is_for_client.true) c.requires.may_get

@@ -1,6 +1,7 @@
 use Rattle.std.proofs.Common.{length, refl, ap, ◌∙◌}
 use Rattle.sws_site.specs.Fixed.{fixed_body}
 use Rattle.sws_site.specs.ResponseHeads.{head_text}
+use Rattle.sws_parts.specs.Parts.{PartsState}
 use Rattle.sws_answer.specs.Answers.{response}
 use Rattle.sws_answer.proofs.RangeLemmas.{no_part_head, no_part_head-short}
 use Rattle.sws_answer.proofs.answering.refuse_range.Goals as goal
@@ -13,9 +14,9 @@ unfolding response fixed_body
 returns c = record {
   code = c.code.ensures;
   closes = refl;
-  head = c.own_parts.ensures.head ∙ c.write_head-head.ensures
+  head = ap (λ (p : PartsState). p.head) c.own.ensures ∙ c.write_head-head.ensures
       ∙ ap (λ options. head_text (no_part_head options c.args.closes c.http_date.result.now (length c.body.result.now))) c.options.ensures
       ∙ ap (λ date. head_text (no_part_head c.args.site.now.options c.args.closes date (length c.body.result.now))) c.http_date.ensures
       ∙ ap (λ bytes. head_text (no_part_head c.args.site.now.options c.args.closes c.args.site.now.date (length bytes))) c.body.ensures.contents;
-  body = c.own_parts.ensures.body;
+  body = ap (λ (p : PartsState). p.body) c.own.ensures ∙ c.content.ensures;
 }

@@ -3,6 +3,7 @@ ghost use Rattle.std.specs.Prelude.{◌≡◌, ◌<◌, ◌≤◌, ◌+◌, fals
 ghost use Rattle.sws_link.specs.Links.{IsInitialLink};
 ghost use Rattle.sws_link.specs.MemWorlds.{IsInitialMemLink, mem_world_tells};
 
+use super::super::one_call;
 use super::{ANSWER, CLOSING_ANSWER, GET, GET_AND_CLOSE, three_files};
 use std::alloc::Global;
 use sws_conn::{Conn, End, Talk, serve_one};
@@ -67,11 +68,12 @@ fn world_of(alloc: Global, sent: &Sent, failing: u32) -> Result<MemWorld, Memory
     ensures total { IfOk result (λ world. (mem_world_tells world).total ≡ 3) }
     ensures accepted { IfOk result (λ world. (mem_world_tells world).accepted ≡ 0) }
 {
+    let calls = one_call(alloc, failing)?;
     let one = link_of(alloc, sent[0].0, sent[0].1)?;
     let two = link_of(alloc, sent[1].0, sent[1].1)?;
     let three = link_of(alloc, sent[2].0, sent[2].1)?;
     let links = vec![in alloc; one, two, three]?;
-    Ok(MemWorld::new(links, [failing].to_vec(alloc)?))
+    Ok(MemWorld::new(links, calls))
 }
 
 /// Serves the next link of the world, and says whether it comes, ends and is written so.

@@ -14,11 +14,11 @@ returns-clause-each g c = λ n seat at.
     let low = slice_get_within made.seats.items n seat at in
     let many = made.ensures.many in
     let cores = c.requires.many in
-    let rested_many = c.in_ok-rested.ensures.many in
+    let rested_many = c.in-Ok.ensures.many in
     let own = get_there c.args.passes.items n (omega (arith, low, many)) in
-    let rest = get_there c.in_ok-rested.rested.items n (omega (arith, low, many, cores, rested_many)) in
+    let rest = get_there c.in-Ok.rested.items n (omega (arith, low, many, cores, rested_many)) in
     let passes_is : seat.passes ≡ own.0 = made.ensures.passes n own.0 seat own.1 at in
-    let worker_is : seat.worker ≡ Some (initial_idle_worker fleet.setup n) = made.ensures.workers n rest.0 seat rest.1 at ∙ ap (λ r. Some r) (c.in_ok-rested.ensures.first n rest.0 rest.1) in
+    let worker_is : seat.worker ≡ Some (initial_idle_worker fleet.setup n) = made.ensures.workers n rest.0 seat rest.1 at ∙ ap (λ r. Some r) (c.in-Ok.ensures.first n rest.0 rest.1) in
     first_seat g.S.Trail g.S.Fits.fits_under fleet n seat.passes seat.worker (omega (arith, low, many, cores))
     (subst (AreInitialPasses (shard_frame g.S.Trail.frame_of) fleet n) (sym passes_is) (c.requires.first n own.0 own.1)) worker_is
 
@@ -29,15 +29,15 @@ returns-clause-fresh g c = λ n seat at.
     let low = slice_get_within made.seats.items n seat at in
     let many = made.ensures.many in
     let cores = c.requires.many in
-    let rested_many = c.in_ok-rested.ensures.many in
+    let rested_many = c.in-Ok.ensures.many in
     let own = get_there c.args.passes.items n (omega (arith, low, many)) in
-    let rest = get_there c.in_ok-rested.rested.items n (omega (arith, low, many, cores, rested_many)) in
+    let rest = get_there c.in-Ok.rested.items n (omega (arith, low, many, cores, rested_many)) in
     let passes_is : seat.passes ≡ own.0 = made.ensures.passes n own.0 seat own.1 at in
     let first = subst (AreInitialPasses (shard_frame g.S.Trail.frame_of) fleet n) (sym passes_is) (c.requires.first n own.0 own.1) in
     record {
       unseen = first.unseen;
       rest = initial_idle_worker fleet.setup n;
-      rested = made.ensures.workers n rest.0 seat rest.1 at ∙ ap (λ r. Some r) (c.in_ok-rested.ensures.first n rest.0 rest.1);
+      rested = made.ensures.workers n rest.0 seat rest.1 at ∙ ap (λ r. Some r) (c.in-Ok.ensures.first n rest.0 rest.1);
       awake = refl;
       none_lost = refl;
     }
