@@ -56,7 +56,8 @@ IMPORT = re.compile(r"^\s*(?:ghost |pub(?:\([a-z]+\))? )*use [^;]*;", re.M)
 ASSERT = re.compile(r"\b(?:assert|assert_eq|assert_ne|panic)!\(|\brt\.panic\(")
 PRINTED = {
     "End::Done": "done", "End::Fault": "fault", "End::Idle": "idle", "SiteLimit::Files": "more than 4096 files",
-    "SiteLimit::Name": "is too long", "TopFault::Usage": "ended 2 ", "TopFault::BadScript": "ended 3 ", "ScriptFault::Bad": "ended 3 ",
+    "SiteLimit::Name": "is too long", "TopFault::Usage": "ended 2 ", "WordFault::Usage": "status 2",
+    "TopFault::BadScript": "ended 3 ", "ScriptFault::Bad": "ended 3 ",
     "TopFault::ReadFault": "ended 4 ", "SiteFault::Fault": "ended 4 ", "TopFault::WriteFault": "ended 5 ", "RunFault::Write": "status 5",
     "TopFault::WorldFault": "ended 6 ", "TopFault::SiteFull": "ended 8 ", "TopFault::TooMany": "ended 9 ", "ScriptFault::TooMany": "ended 9 ",
     "TopFault::BadJournal": "ended 10 ", "CheckFault::BadJournal": "ended 10 ", "TopFault::NotLegal": "ended 11 ",

@@ -187,7 +187,7 @@ def git_clone(is_quick):
         git(work, "tag", "-a", "-m", "a tag", "first")
         git(own, "clone", "-q", "--bare", work, bare)
         git(bare, "update-server-info")
-        with Server(folder, "--log") as server:
+        with Server(folder, "--log-format", "short") as server:
             copy = os.path.join(own, "copy")
             git(own, "clone", "-q", f"http://127.0.0.1:{server.port}/repo.git", copy)
             git(copy, "fsck", "--full")
@@ -309,7 +309,7 @@ def apt_archive(layout, is_quick):
     packages = [(f"package-{number:02}", "1.0", 2_000 * (number + 1)) for number in range(12 if is_quick else 40)]
     with site() as folder, room() as own:
         layout.make(folder, architecture, packages)
-        with Server(folder, "--log") as server:
+        with Server(folder, "--log-format", "short") as server:
             apt = Apt(own, layout.source.format(port=server.port), architecture)
             steps = {"update": apt.run("update"), "download": apt.run("download", *(name for name, _, _ in packages))}
             is_same = apt.fetched() == packages_of(folder)
@@ -370,7 +370,7 @@ def wget_mirror(is_quick):
     """A site mirrored, then looked through again by HEAD with nothing changed, and one page of it asked for if it is newer."""
     with site() as folder, room() as own:
         make_pages(folder, 5 if is_quick else 20)
-        with Server(folder, "--log") as server:
+        with Server(folder, "--log-format", "short") as server:
             url = f"http://127.0.0.1:{server.port}/"
             words = ["wget", "-nv", "-nH", "-P", "mirror", "--trust-server-names", "--restrict-file-names=nocontrol"]
             # A mirror that asks by If-Modified-Since ends where the first page is unchanged, before whichever server.
@@ -389,7 +389,7 @@ def curl_continued(is_quick):
     """A download that was broken off, gone on with; and one that is whole already."""
     with site() as folder, room() as own:
         put(folder, "large.bin", noise((2 if is_quick else 4) * LARGE))
-        with Server(folder, "--log") as server:
+        with Server(folder, "--log-format", "short") as server:
             url, words = f"http://127.0.0.1:{server.port}/large.bin", ["curl", "-sS", "-o", "large.bin"]
             broken, _ = use([*words, "--limit-rate", "8M", "--max-time", "0.7", url], own)
             got = os.path.getsize(os.path.join(own, "large.bin"))
@@ -404,7 +404,7 @@ def curl_continued(is_quick):
 
 def curl_unchanged(_):
     """A page that is asked for if it is newer than what is there: it isn't, and then it is."""
-    with site() as folder, room() as own, Server(folder, "--log") as server:
+    with site() as folder, room() as own, Server(folder, "--log-format", "short") as server:
         url = f"http://127.0.0.1:{server.port}/a.txt"
         seen = [use(["curl", "-sS", "-R", "-o", "a.txt", "-w", "%{http_code}", url], own)[1]]
         seen.append(use(["curl", "-sS", "-z", "a.txt", "-o", "none.txt", "-w", "%{http_code}", url], own)[1])
@@ -422,7 +422,7 @@ def aria2_parts(is_quick):
     size = LARGE if is_quick else 4 * LARGE
     with site() as folder, room() as own:
         put(folder, "large.bin", noise(size))
-        with Server(folder, "--log") as server:
+        with Server(folder, "--log-format", "short") as server:
             words = ["aria2c", "-q", "-x8", "-s8", "-k1M", "--file-allocation=none", "-o", "large.bin", f"http://127.0.0.1:{server.port}/large.bin"]
             done, said = use(words, own)
             is_whole = done == 0 and digest(os.path.join(own, "large.bin")) == digest(os.path.join(folder, "large.bin"))
@@ -463,14 +463,15 @@ def h2load_pipelined(is_quick):
 
 
 def ab_kept(is_quick):
-    """Requests of HTTP/1.0 that ask for their connections to be kept, which the server needn't do."""
+    """Requests of HTTP/1.0 that ask for their connections to be kept: they are, but for the last answer of each."""
     count = 2_000 if is_quick else 40_000
     with site() as folder, room() as own, Server(folder) as server:
         _, said = use(["ab", "-q", "-k", "-n", str(count), "-c", "32", f"http://127.0.0.1:{server.port}/a.txt"], own, 120)
         status, told = server.end()
     figures = {name: int(number) for name, number in re.findall(r"^(Complete requests|Failed requests|Keep-Alive requests|Non-2xx responses):\s+(\d+)", said, re.M)}
-    is_right = figures.get("Complete requests") == count and figures.get("Failed requests") == 0 and "Non-2xx responses" not in figures
-    yield is_right and status == 0, f"{count} complete, none failed", \
+    is_right = figures.get("Complete requests") == count and figures.get("Failed requests") == 0 \
+        and figures.get("Keep-Alive requests", 0) > count * 0.99 and "Non-2xx responses" not in figures
+    yield is_right and status == 0, f"{count} complete, none failed, all kept but the last of a connection", \
         f"{', '.join(f'{name.lower()} {number}' for name, number in figures.items()) or said[-200:]} (connections {told.get('connections')})"
 
 
@@ -639,7 +640,7 @@ def browser_pages(_):
     """A page and its files visited twice: those that may not be kept without asking are asked for, and none is sent again; others aren't asked for."""
     with site() as folder, room() as own, contextlib.ExitStack() as stack:
         make_page_of_fifty(folder)
-        servers = {age: stack.enter_context(Server(folder, "--log", "--cache", str(age))) for age in (0, 3600)}
+        servers = {age: stack.enter_context(Server(folder, "--log-format", "short", "--cache", str(age))) for age in (0, 3600)}
         with Browser(own) as browser:
             for server in servers.values():
                 for url in (f"http://127.0.0.1:{server.port}/page/", "about:blank", f"http://127.0.0.1:{server.port}/page/"):

@@ -191,6 +191,97 @@ def after_the_stop(_):
     yield is_right, f"0.7 s after the stop file {refused} of 10 were refused, the slowest after {slowest:.3f} s; a download went on to {got} bytes ({told})"
 
 
+KEPT = HEAD.replace(b"Connection: close\r\n", b"")
+
+
+def answer_on(it, seconds=10):
+    """One answer with a body of ten bytes on a connection that stays; nothing where it ends in place of one, and what came of one that it broke off."""
+    it.settimeout(seconds)
+    got = b""
+    with contextlib.suppress(ConnectionResetError, BrokenPipeError):
+        while not (got.partition(b"\r\n\r\n")[1] and len(got.partition(b"\r\n\r\n")[2]) >= 10):
+            piece = it.recv(1 << 16)
+            if not piece:
+                break
+            got += piece
+    return got
+
+
+def asks_on(it, gap, seconds):
+    """Asks again and again on a connection that stays, with this gap: when it ended, where it did, and whether each answer before that was whole."""
+    until = time.monotonic() + seconds
+    while time.monotonic() < until:
+        try:
+            it.sendall(KEPT)
+            got = answer_on(it)
+        except OSError:
+            got = b""
+        if not got:
+            return time.monotonic(), True
+        if len(got.partition(b"\r\n\r\n")[2]) != 10:
+            return time.monotonic(), False
+        time.sleep(gap)
+    return None, True
+
+
+def ends_within(it, seconds):
+    """After how many seconds the other side ends a connection on which nothing is asked, and whether it sends nothing before."""
+    it.settimeout(seconds)
+    began = time.monotonic()
+    try:
+        return time.monotonic() - began if it.recv(1) == b"" else None
+    except OSError:
+        return None
+
+
+def kept_connections(_):
+    """Connections that are kept, as the folder changes and as the server stops: those that wait between two requests are ended at once and none in the middle
+    of a request or an answer, and each answer that comes is whole."""
+    with site() as folder:
+        put(folder, "large.bin", bytes(32 * MEGABYTE))
+        with Server(folder, "--grace", "10") as server:
+            quiet, half, whole, behind = (server.connect() for _ in range(4))
+            quiet.sendall(KEPT)
+            first = answer_on(quiet)
+            half.sendall(KEPT[:20])
+            behind.sendall(KEPT + KEPT[:20])
+            answer_on(behind)
+            whole.sendall(HEAD.replace(b"a.txt", b"large.bin"))
+            got = len(whole.recv(1 << 16))
+            seen = []
+            askers = [threading.Thread(target=lambda gap=gap: seen.append((gap, *asks_on(server.connect(), gap, 30)))) for gap in (0.05, 0.6)]
+            for asker in askers:
+                asker.start()
+            time.sleep(0.5)
+            put(folder, "a.txt", b"9876543210")
+            until = time.monotonic() + 10
+            while not server.ask().endswith(b"9876543210") and time.monotonic() < until:
+                time.sleep(0.05)
+            changed = time.monotonic()
+            ended = [ends_within(quiet, 2)]
+            for it in (half, behind):
+                it.sendall(KEPT[20:])
+                ended.append(answer_on(it).endswith(b"0123456789"))
+            while piece := whole.recv(1 << 16):
+                got += len(piece)
+            for asker in askers:
+                asker.join()
+            idle, unused = server.connect(), server.connect()
+            idle.sendall(KEPT)
+            newer = answer_on(idle)
+            began = time.monotonic()
+            server.stop()
+            ended += [ends_within(idle, 3), ends_within(unused, 9)]
+            status, told = server.end()
+            lasted = time.monotonic() - began
+    lasted_by = {gap: at and at - changed for gap, at, _ in seen}
+    is_right = first.endswith(b"0123456789") and newer.endswith(b"9876543210") and None not in ended and False not in ended and got > 32 * MEGABYTE
+    is_right &= all(is_whole for _, _, is_whole in seen) and None not in lasted_by.values() and lasted_by[0.6] < 3 and lasted_by[0.05] < 9
+    yield is_right and status == 0 and lasted < 9 and told["fault"] == 0, (
+        f"after others had the new page one that was idle lasted {ended[0]} s, one that asked each 0.6 s {lasted_by[0.6]} s, each 0.05 s {lasted_by[0.05]} s; half "
+        f"requests were answered: {ended[1:3]}, a download had {got} bytes; after a stop an idle one lasted {ended[3]} s, an unused one {ended[4]} s, the server {lasted:.2f} s ({told})")
+
+
 def bytes_in_turn(_):
     """Two thousand clients that send a byte each in turn: the memory of the server is bounded."""
     with site() as folder, Server(folder, "--lanes", "4", "--accepting", "2") as server:
@@ -239,6 +330,52 @@ def unread_files(_):
     is_right = seen.endswith(b"0123456789") and missing.startswith(b"HTTP/1.1 404") and status == 0
     named = [name for name in ("secret.txt", "closed/", "UTF-8") if name in said]
     yield is_right, f"beside what can't be read the others are served; said of it: {', '.join(named) or 'nothing'} (status {status}, {told})"
+
+
+def without_proc(_):
+    """A machine that has no /proc, as a bare chroot: what can't be read is named with its cause, and the status is 4."""
+    words = ["unshare", "-m", "sh", "-c", 'umount -l /proc && exec "$@"', "sh"]
+    if os.geteuid() != 0 or not shutil.which("unshare") or subprocess.run([*words, "true"], capture_output=True, check=False).returncode != 0:
+        return
+    with site() as folder:
+        done = subprocess.run([*words, staying.SWSD, folder, "--listen", "127.0.0.1:0"], capture_output=True, text=True, timeout=30, check=False)
+    named = re.search(r"/proc/self/fd/\d+, by which it is listed: No such file or directory", done.stderr)
+    yield done.returncode == 4 and bool(named), f"without /proc: status {done.returncode}, said: {done.stderr.strip()[:200]!r}"
+
+
+def per_address(_):
+    """Connections of one address, as many as it may have and more: those beyond are closed as they come, one that ends makes room, another address and a front
+    aren't held up, and what was refused is in the totals; and words that are no number or no address are named."""
+    wrong = []
+
+    def is_served(server, source):
+        it = socket.create_connection(("127.0.0.1", server.port), timeout=10, source_address=(source, 0))
+        with contextlib.suppress(OSError):
+            it.sendall(KEPT)
+            if answer_on(it).endswith(b"0123456789"):
+                return it
+        it.close()
+        return None
+
+    with site() as folder:
+        with Server(folder, "--per-address", "3", "--front", "127.0.0.7") as server:
+            here = [is_served(server, "127.0.0.2") for _ in range(5)]
+            if [it is not None for it in here] != [True, True, True, False, False]:
+                wrong.append([it is not None for it in here])
+            beside = [is_served(server, source) for source in ["127.0.0.3"] * 2 + ["127.0.0.7"] * 5]
+            if None in beside:
+                wrong.append("others are refused")
+            here[0].close()
+            if not is_soon(lambda: is_served(server, "127.0.0.2") is not None, 5):
+                wrong.append("no room after an end")
+            status, told = server.end()
+            if status != 0 or told.get("refused", 0) < 2:
+                wrong.append((status, told))
+        for words, cause in ((["--per-address", "0"], "0 is not in 1..="), (["--front", "here"], "invalid value 'here' for '--front <ADDRESS>'")):
+            done = subprocess.run([staying.SWSD, folder, "--listen", "127.0.0.1:0", *words], capture_output=True, text=True, timeout=30, check=False)
+            if done.returncode != 2 or cause not in done.stderr:
+                wrong.append((words, done.returncode, done.stderr))
+    yield not wrong, f"three connections an address, a fourth, another address and a front, otherwise: {wrong[:3]} ({told})"
 
 
 def dates(is_quick):
@@ -389,6 +526,51 @@ def many_answers(_):
                 if status != 0:
                     wrong.append((words, status, told))
     yield not wrong, f"three limits of a connection, otherwise answered: {wrong[:3]}"
+
+
+OLD = b"GET /a.txt HTTP/1.0\r\n"
+
+# Requests of HTTP/1.0 on one connection, and what the answer to each says of it; behind one that ends it none is answered.
+OLD_CLIENTS = [
+    ([OLD + b"Connection: keep-alive\r\n\r\n"] * 3 + [OLD + b"\r\n"] * 2, [b"keep-alive"] * 3 + [b"close"]),
+    ([OLD + b"Connection: Keep-Alive\r\nConnection: close\r\n\r\n"] * 2, [b"close"]),
+    ([OLD + b"connection: te , KEEP-ALIVE\r\n\r\n", OLD + b"Connection: keep-alive-not\r\n\r\n"], [b"keep-alive", b"close"]),
+    ([OLD.replace(b"1.0", b"1.1") + b"Host: x\r\n\r\n", OLD + b"Connection: keep-alive\r\nContent-Length: 1\r\n\r\nx"], [b"keep-alive", b"close"]),
+]
+
+
+def old_clients(_):
+    """Clients of HTTP/1.0: the connection of one that asks for it stays, and each answer says whether it does."""
+    wrong = []
+    with site() as folder, Server(folder) as server:
+        for requests, owed in OLD_CLIENTS:
+            answers = server.ask(b"".join(requests))
+            said = re.findall(rb"HTTP/1.1 200 OK\r\nServer: sws\r\nConnection: ([a-z-]*)\r\n", answers)
+            if said != owed or answers.count(b"\r\n\r\n0123456789") != len(owed):
+                wrong.append((requests[-1], said))
+        status, told = server.end()
+    yield status == 0 and not wrong, f"{len(OLD_CLIENTS)} connections of HTTP/1.0, otherwise kept or closed: {wrong[:3]} ({told})"
+
+
+def gone_on(_):
+    """Downloads that were broken off: one goes on where it names the date of the page (If-Range), and gets the whole page on any other condition and once
+    the page is another."""
+    with site() as folder, Server(folder) as server:
+        date = re.search(rb"\r\nLast-Modified: ([^\r]*)", server.ask())[1]
+        at = time.strptime(date.decode(), "%a, %d %b %Y %H:%M:%S GMT")
+
+        def behind(value):
+            return server.ask(HEAD[:-2] + b"Range: bytes=4-\r\nIf-Range: " + value + b"\r\n\r\n")
+
+        part = behind(date)
+        others = [time.strftime("%a, %d %b %Y %H:%M:%S GMT", time.gmtime(calendar.timegm(at) + more)).encode() for more in (-1, 1)]
+        others += [time.strftime("%A, %d-%b-%y %H:%M:%S GMT", at).encode(), b'"' + date + b'"', b'W/"x"', date[:-1], date + b"\r\nIf-Range: " + date]
+        wrong = [value for value in others if not re.match(rb"HTTP/1.1 200 .*\r\n\r\n0123456789$", behind(value), re.S)]
+        put(folder, "a.txt", b"abcdefghij")
+        is_new = is_soon(lambda: behind(date).startswith(b"HTTP/1.1 200 "), 10)
+        status, told = server.end()
+    is_right = part.startswith(b"HTTP/1.1 206 ") and part.endswith(b"\r\n\r\n456789") and is_new and not wrong
+    yield status == 0 and is_right, f"a half on the page's own date, the whole of another page: {part[:12]}, {is_new}; {len(others)} other conditions, otherwise: {wrong[:3]} ({told})"
 
 
 # Limits of a site of four files of ten bytes, and what is said where it has more.
@@ -552,11 +734,13 @@ def log_unwritten(_):
         yield is_right, f"--log-fault {fault}: {answered} answered, status {status}, {'it ended by itself' if has_ended else 'it went on'}; {', '.join(lost)}"
 
 
-CASES = [bursts, after_the_stop, dates, tricklers, moving_downloads, held_lanes, unread_files, bytes_in_turn, redirects, additions, read_twice, many_answers,
-         site_limits, addresses, log_lines, log_under_load, log_unwritten]
+CASES = [bursts, after_the_stop, kept_connections, without_proc, per_address, dates, tricklers, moving_downloads, held_lanes, unread_files,
+         bytes_in_turn, redirects, additions, read_twice, many_answers, old_clients, gone_on, site_limits, addresses, log_lines, log_under_load,
+         log_unwritten]
 
-QUICK = [bursts, after_the_stop, dates, tricklers, unread_files, redirects, additions, read_twice, many_answers, site_limits, addresses, log_lines,
-         log_under_load, log_unwritten]
+QUICK = [bursts, after_the_stop, without_proc, per_address, dates, tricklers, unread_files, redirects, additions, read_twice, many_answers,
+         old_clients, gone_on, site_limits, addresses, log_lines, log_under_load, log_unwritten]
+
 
 
 def run(only="", is_quick=False):

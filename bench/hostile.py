@@ -652,8 +652,8 @@ def thread_refuser(folder):
 
 
 def undated(response):
-    """A response of `swsd` as `sws` makes it, which has no date."""
-    return re.sub(rb"\r\nLast-Modified: [^\r]*", b"", response, count=1)
+    """A response of `swsd` as `sws` makes it, which has no date and doesn't say that a connection stays."""
+    return re.sub(rb"\r\nLast-Modified: [^\r]*", b"", response.replace(b"\r\nConnection: keep-alive", b"", 1), count=1)
 
 
 def answered_in(port, count, seconds, owed):

@@ -7,7 +7,8 @@
 Eight clients at once send random commands for two keys and note of each when it was sent, when its reply was there, and the reply: a
 history. Of each key a search looks for an order of all its commands in which none stands before one whose reply was there before it
 was sent, and in which a plain dictionary gives just these replies (J. Wing and C. Gong, Testing and Verifying Concurrent Objects, 1993).
-Where there is none, the history is printed, and the status is 1. By default there are 1,000 histories, each with two keys of its own.
+A command of both keys is one of each, which began and ended together, as each key stands in an order of its own. Where there is no order, the history is printed, and the
+status is 1. By default there are 1,000 histories, each with two keys of its own.
 """
 import random
 import re
@@ -35,12 +36,19 @@ class Client:
         began = time.monotonic_ns()
         self.socket.sendall(encoded(words))
         line = self.file.readline()
-        reply = line
-        if line.startswith(b"$") and line != b"$-1\r\n":
-            reply = line + self.file.read(int(line[1:]) + 2)
         if not line:
             raise EOFError("the connection ended")
+        if line.startswith(b"*"):
+            reply = [self.bulk(self.file.readline()) for _ in range(int(line[1:]))]
+        else:
+            reply = self.bulk(line)
         return began, time.monotonic_ns(), reply
+
+    def bulk(self, line):
+        """Returns the reply that begins with this line."""
+        if line.startswith(b"$") and line != b"$-1\r\n":
+            return line + self.file.read(int(line[1:]) + 2)
+        return line
 
 
 def bulk(value):
@@ -83,11 +91,21 @@ def step(value, words):
     return b"%d" % (number + 1), b":%d\r\n" % (number + 1)
 
 
-def drawn(rng, key):
+def parts(words, reply):
+    """Returns the commands of one key each that a command is, with their replies."""
+    if words[0] == b"MGET":
+        return [((b"GET", key), one) for key, one in zip(words[1:], reply)]
+    if words[0] == b"MSET":
+        return [((b"SET", key, value), reply) for key, value in zip(words[1::2], words[2::2])]
+    return [(words, reply)]
+
+
+def drawn(rng, key, other):
     value = rng.choice([b"%d" % rng.randrange(100), b"text", b""])
     return rng.choice([
         (b"GET", key), (b"SET", key, value), (b"GETSET", key, value), (b"SETNX", key, value), (b"DEL", key),
         (b"APPEND", key, b"%d" % rng.randrange(10)), (b"STRLEN", key), (b"INCR", key), (b"INCR", key), (b"INCR", key),
+        (b"MGET", key, other), (b"MSET", key, value, other, b"%d" % rng.randrange(100)),
     ])
 
 
@@ -114,7 +132,7 @@ def has_order(calls):
 
 def one_history(clients, number, rng):
     keys = [b"%d:%d" % (number, i) for i in range(2)]
-    plans = [[drawn(rng, rng.choice(keys)) for _ in range(COMMANDS)] for _ in clients]
+    plans = [[drawn(rng, *rng.sample(keys, 2)) for _ in range(COMMANDS)] for _ in clients]
     calls, faults = [], []
     start = threading.Barrier(len(clients))
 
@@ -123,7 +141,7 @@ def one_history(clients, number, rng):
             start.wait()
             for words in plan:
                 sent, there, reply = client.ask(words)
-                calls.append((sent, there, words, reply))
+                calls.extend((sent, there, one, answer) for one, answer in parts(words, reply))
         except (OSError, EOFError, ValueError) as fault:
             faults.append(fault)
 

@@ -4,10 +4,10 @@ the same bytes.
 
     bench/pieces.py [--inputs N] [--seed N] [--program PATH] [--daemon PATH]
 
-An input is up to twenty heads, some of them wrong or long, and may end anywhere. `swsd` dates its pages and `sws answer` doesn't, so that line
-is left out. Of each input that is answered otherwise the seed and the number are said, and the status is 1. It wants both programs built
-(`./sws --version`, `./swsd --version`); the server ends with the script, and all that was made stands below the system's temporary folder and
-is removed.
+An input is up to twenty heads, some of them wrong or long, and may end anywhere. `swsd` dates its pages and says that connections stay, and
+`sws answer` doesn't, so these lines are left out, and no input asks for what `swsd` alone does. Of each input that is answered otherwise the
+seed and the number are said, and the status is 1. It wants both programs built (`./sws --version`, `./swsd --version`); the server ends with
+the script, and all that was made stands below the system's temporary folder and is removed.
 """
 import argparse
 import os
@@ -38,15 +38,16 @@ def make_folder(folder):
 
 
 def head(draw):
-    lines = [f"{draw.choice(METHODS)} {draw.choice(TARGETS)} {draw.choice(VERSIONS)}"]
+    version = draw.choice(VERSIONS)
+    lines = [f"{draw.choice(METHODS)} {draw.choice(TARGETS)} {version}"]
     if draw.random() < 0.95:
         lines.append("Host: x")
     if draw.random() < 0.2:
         lines.append(f"Range: bytes={draw.choice(RANGES)}")
     if draw.random() < 0.15:
-        lines.append(f"Connection: {draw.choice(['close', 'keep-alive'])}")
+        lines.append(f"Connection: {draw.choice(['close', 'te' if version == 'HTTP/1.0' else 'keep-alive'])}")
     if draw.random() < 0.05:
-        lines.append(f"Content-Length: {draw.choice(['0', '3', 'x'])}")
+        lines.append(f"Content-Length: {draw.choice(['0', '3'])}")
     if draw.random() < 0.05:
         lines.append("X: " + "y" * draw.randrange(4000))
     end = "\n" if draw.random() < 0.03 else "\r\n"
@@ -83,7 +84,7 @@ def receive_all(link):
 
 
 def undated(text):
-    return re.sub(rb"Last-Modified: [^\r]*\r\n", b"", text)
+    return re.sub(rb"Last-Modified: [^\r]*\r\n|Connection: keep-alive\r\n", b"", text)
 
 
 def is_alike(draw, port, program, folder):

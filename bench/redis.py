@@ -1,18 +1,23 @@
 #!/usr/bin/env python3
-"""Tries `example_redis` over sockets, as its clients see it: commands, requests in one piece and byte by byte, faults, clients beside each other.
+"""Tries `example_redis` over sockets, as its clients see it: commands, requests in one piece and byte by byte, faults, clients beside each other,
+and how it stops.
 
-    redis.py PROGRAM        starts the built program at a free port of this machine, and says what went wrong; status 1 where anything did
+    redis.py PROGRAM        starts the built program at free ports of this machine, and says what went wrong; status 1 where anything did
 
-What is expected is what Redis answers (https://redis.io/docs/latest/commands/), but for the limits, which are the program's own.
+What is expected is what Redis answers (https://redis.io/docs/latest/commands/), but for the limits, which are the program's own. Where `redis-server` is
+installed it is asked what can be compared too, and what both answer is compared byte by byte.
 """
+import os
+import shutil
 import socket
 import subprocess
 import sys
+import tempfile
 import threading
 import time
 
 FAULTS = []
-CONNECTIONS = 9
+CONNECTIONS = 10
 
 
 def command(*words):
@@ -81,8 +86,16 @@ ROWS = [
     ("STRLEN t", 4), ("GET t", b"abcd"), ("STRLEN no", 0), ("COMMAND", []), ("COMMAND DOCS", []),
     ("CLIENT SETINFO x", "-ERR unknown command 'CLIENT', with args beginning with: 'SETINFO' 'x' "), ("GET", "-ERR wrong number of arguments for 'get' command"),
     ("get a b", "-ERR wrong number of arguments for 'get' command"), ("SET a", "-ERR wrong number of arguments for 'set' command"),
+    (f"MGET k {'x' * 1025}", "-ERR key exceeds maximum allowed size"), (f"MSET k 1 {'x' * 1025} 1", "-ERR key exceeds maximum allowed size"), ("GET k", None),
     (f"SET {'x' * 1025} 1", "-ERR key exceeds maximum allowed size"), (f"SET big {'y' * 65536}", "+OK"), ("APPEND big z", TOO_LONG), ("STRLEN big", 65536),
 ]
+# What is compared with Redis byte by byte, from an empty store on.
+SAME = """
+SET k v|GET k|SET k w NX|SET k w XX GET|SET k z NX XX|SETNX k q|GETSET k p|GETSET fresh p|STRLEN k|APPEND k more|INCR k|INCR n|DECRBY n 7|INCRBY n x
+MSET a 1 b two c 3|MGET a x b k|MGET a a|EXISTS a b b x|DEL a x c|DEL b|DEL b b|EXISTS a|EXISTS|DBSIZE|DBSIZE a|MSET a|MSET a 1 b|MSET|MGET|DEL
+MSET d 1 d 2|mget d d n|FLUSHALL now|FLUSHALL sync async|DBSIZE|FLUSHALL SYNC|DBSIZE|MGET d k|flushall async|FLUSHALL|SHUTDOWN soon
+ECHO|ECHO a b|GET a b|SET a|QUIT
+"""
 BAD = [
     (b"*x\r\n", "invalid multibulk length"), (b"*1\r\n+PING\r\n", "expected '$', got '+'"), (b"*1\r\n$x\r\n", "invalid bulk length"),
     (b"*1\r\n$65537\r\n", "invalid bulk length"), (b"a" * 65537, "too big inline request"),
@@ -131,6 +144,71 @@ def try_beside(port):
     still.socket.close()
 
 
+def told(port, sent):
+    """Returns all that is told to a client that sends this and then waits for the end."""
+    with socket.create_connection(("127.0.0.1", port), timeout=10) as client:
+        client.sendall(sent)
+        return b"".join(iter(lambda: client.recv(65536), b""))
+
+
+def try_beside_redis(program):
+    if not shutil.which("redis-server"):
+        return print("redis-server isn't here: nothing is compared with it")
+    with socket.socket() as free, tempfile.TemporaryDirectory() as folder:
+        free.bind(("127.0.0.1", 0))
+        port = free.getsockname()[1]
+        free.close()
+        words = ["redis-server", "--port", str(port), "--bind", "127.0.0.1", "--save", "", "--appendonly", "no", "--dir", folder]
+        redis = subprocess.Popen(words, stdout=subprocess.DEVNULL, stderr=subprocess.DEVNULL)
+        ours = subprocess.Popen([program, "0", "1", "4"], stdout=subprocess.PIPE, text=True)
+        try:
+            for _ in range(200):
+                with socket.socket() as tried:
+                    if tried.connect_ex(("127.0.0.1", port)) == 0:
+                        break
+                time.sleep(0.05)
+            requests = [line.split(" ") for line in SAME.strip().replace("\n", "|").split("|")]
+            sent = b"".join(command(*request) for request in requests)
+            got, want = told(int(ours.stdout.readline().rsplit(":", 1)[1]), sent), told(port, sent)
+            for number, (one, other) in enumerate(zip(got.split(b"\r\n"), want.split(b"\r\n"))):
+                expect(f"line {number} of what Redis answers", one, other)
+            expect("how many bytes Redis answers", len(got), len(want))
+        finally:
+            redis.kill()
+            ours.kill()
+
+
+def try_to_stop(program):
+    """A stop file, and SHUTDOWN: nobody is taken any more, who is there is cut, and the file is written."""
+    with tempfile.TemporaryDirectory() as folder:
+        kept, stop = os.path.join(folder, "kept"), os.path.join(folder, "stop")
+        words = [program, "0", "1024", "4", "--stop-file", stop, "--file", kept]
+        for way in ("the stop file", "SHUTDOWN"):
+            one = subprocess.Popen(words, stdout=subprocess.PIPE, text=True)
+            try:
+                port = int(one.stdout.readline().rsplit(":", 1)[1])
+                idle, client = Client(port), Client(port)
+                expect(f"{way}: the value before", client.ask("GET", "kept"), None if way == "the stop file" else b"1")
+                expect(f"{way}: a number", client.ask("INCR", "kept"), 1 if way == "the stop file" else 2)
+                if way == "SHUTDOWN":
+                    client.socket.sendall(command("SHUTDOWN", "SAVE"))
+                    expect(f"{way}: the end", client.ends(), True)
+                else:
+                    open(stop, "w").close()
+                began = time.monotonic()
+                said = one.communicate(timeout=20)[0]
+                expect(f"{way}: within its grace", time.monotonic() - began < 8, True)
+                expect(f"{way}: its last line", said.startswith(("0 ", "1 ", "2 ")) and " connections were served, and " in said, True)
+                expect(f"{way}: its status", one.returncode, 0)
+                expect(f"{way}: who is there", idle.ends(), True)
+            finally:
+                one.kill()
+            if os.path.exists(stop):
+                os.remove(stop)
+        with open(kept, "rb") as file:
+            expect("what is kept", file.read(), command("SET", "kept", "2") + command("QUIT"))
+
+
 def main():
     if len(sys.argv) != 2:
         sys.exit(__doc__)
@@ -140,10 +218,14 @@ def main():
         try_commands(port)
         try_faults(port)
         try_beside(port)
+        # The last one comes now, as none is cut for being slow before.
+        Client(port).socket.close()
         expect("its last line", program.communicate(timeout=20)[0], f"{CONNECTIONS} connections were served, and 0 failed\n")
         expect("its status", program.returncode, 0)
     finally:
         program.kill()
+    try_beside_redis(sys.argv[1])
+    try_to_stop(sys.argv[1])
     print("\n".join(FAULTS) if FAULTS else "all as expected")
     sys.exit(1 if FAULTS else 0)
 

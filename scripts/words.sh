@@ -13,7 +13,7 @@ Usage: sws COMMAND
   gopher FOLDER --host HOST --port PORT      runs a script by Gopher; with --connections N serves N connections
 
 Options of all but answer: --workers K, --shards G, --batch B, --group N, --cost S
-Further: --journal, --schedule (replay, gopher), --log (serve, replay, check), --date SECONDS (serve, answer, replay)
+Further: --journal (replay, gopher), --schedule (replay), --log (serve, replay, check), --date SECONDS (serve, answer, replay)
 
 docs/SWS.md says what each of them means. To serve a folder and stay up there is ./swsd.
 TEXT

@@ -1,5 +1,5 @@
 -- A change at one key changes no other.
-use Rattle.std.proofs.Common.{Ordering, ◌≡◌, ◌≢◌, ℕ, Vec, List, Option, None, true, false, refl, ◌∙◌, ap, arith}
+use Rattle.std.proofs.Common.{Ordering, ◌≡◌, ◌≢◌, ℕ, Vec, List, Option, None, true, false, refl, ◌∙◌, ap, arith, subst}
 use Rattle.std.specs.Global.{Global}
 use Rattle.std.specs.BTreeMap as tree
 use Rattle.std.specs.BTreeMap.{is_at}
@@ -16,7 +16,7 @@ use Rattle.example_redis.specs.Stored.{IsServed, Puts, Store, value_at}
 use Rattle.example_redis.specs.declared.reply.Reply.{Reply}
 use Rattle.example_redis.specs.declared.request.Question.{Question}
 use Rattle.example_redis.specs.Replies.{shown_reply}
-use Rattle.example_redis.specs.Values.{Deed, Looks, IsTurn, answer_to, bytes_in, turn_of}
+use Rattle.example_redis.specs.Values.{Deed, Looks, IsCounted, IsTurn, answer_to, bytes_in, turn_of}
 
 abbrev pub key_cmp : Vec ℕ Global → Vec ℕ Global → Ordering
 key_cmp one other = slice_cmp nat_cmp one.items other.items
@@ -44,13 +44,14 @@ put_back key before between after value out back = record {
   others = λ other differs. back.others other differs ∙ out.others other differs;
 }
 
-pub served : (key : List ℕ) (deed : Deed) (before after : Store) (old : Option (Vec ℕ Global)) (done : Done) → bytes_in old ≡ value_at before key → IsTurn (turn_of deed (bytes_in old)) done → Puts key (bytes_in done.value) before after → IsServed key deed before after done.reply
-served key deed before after old done is turn puts = record {
+pub served : (key : List ℕ) (deed : Deed) (before after : Store) (old : Option (Vec ℕ Global)) (done : Done) → bytes_in old ≡ value_at before key → IsTurn (turn_of deed (bytes_in old)) done → IsCounted deed (bytes_in old) done.reply → Puts key (bytes_in done.value) before after → IsServed key deed before after done.reply
+served key deed before after old done is turn counted puts = record {
   puts = record {
     at_key = puts.at_key ∙ turn.value ∙ ap (λ (old : Option (List ℕ)). (turn_of deed old).value) is;
     others = puts.others;
   };
   reply = turn.reply ∙ ap (λ (old : Option (List ℕ)). (turn_of deed old).reply) is;
+  counted = subst (λ (old : Option (List ℕ)). IsCounted deed old done.reply) is counted;
 }
 
 -- nothing was put in
@@ -58,8 +59,9 @@ pub put_none : (key : List ℕ) (before : Store) → value_at before key ≡ Non
 put_none key before none = record { at_key = none; others = λ other differs. refl }
 
 -- a key that is looked at
-pub looked : (key : List ℕ) (question : Question) (store : Store) (old : Option (Vec ℕ Global)) (answer : Reply) → bytes_in old ≡ value_at store key → shown_reply answer ≡ answer_to question (bytes_in old) → IsServed key (Looks question) store store answer
-looked key question store old answer is says = record {
+pub looked : (key : List ℕ) (question : Question) (store : Store) (old : Option (Vec ℕ Global)) (answer : Reply) → bytes_in old ≡ value_at store key → shown_reply answer ≡ answer_to question (bytes_in old) → IsCounted (Looks question) (bytes_in old) answer → IsServed key (Looks question) store store answer
+looked key question store old answer is says counted = record {
   puts = record { at_key = refl; others = λ other differs. refl };
   reply = says ∙ ap (answer_to question) is;
+  counted = subst (λ (old : Option (List ℕ)). IsCounted (Looks question) old answer) is counted;
 }

@@ -1,7 +1,7 @@
 -- What a request asks, and of which cell.
 -- The commands as in https://redis.io/docs/latest/commands/
-use Rattle.std.specs.Prelude.{◌+◌, ◌-◌, ◌*◌, ◌%◌, ◌^◌, pos, negsuc, ℕ, ℤ, List, [], ◌∷◌, ◌++◌, Option, Some, None, codes, length, map, nat_lt, neg_ℤ, option_and_then, take, if◌then◌else◌}
-use Rattle.std.specs.List.{fold}
+use Rattle.std.specs.Prelude.{◌==◌, ◌&&◌, ◌||◌, ◌+◌, ◌-◌, ◌*◌, ◌%◌, ◌^◌, pos, negsuc, ℕ, ℤ, Bool, true, false, List, [], ◌∷◌, ◌++◌, Option, Some, None, codes, length, map, nat_lt, neg_ℤ, option_and_then, take, if◌then◌else◌}
+use Rattle.std.specs.List.{fold, range_with_len}
 use lib.Signed.{mag}
 use Rattle.std.specs.Str.{str_eq_ignore_ascii_case}
 use Rattle.mely_net.specs.declared.asked.Asked.{Asked}
@@ -9,8 +9,11 @@ use Rattle.mely_net.specs.declared.asked.Asked.TheVariants.{At, Each, Here, Last
 use Rattle.example_redis.specs.declared.asking.Options.{Options}
 use Rattle.example_redis.specs.declared.limits.TheConstants.{CELLS, MOST_KEY, MOST_SHOWN}
 use Rattle.example_redis.specs.declared.reply.Reply.{Reply}
+use Rattle.example_redis.specs.declared.reply.Reply.TheVariants as reply
 use Rattle.example_redis.specs.declared.request.Question.TheVariants.{Value, IsThere, Length}
 use Rattle.example_redis.specs.declared.request.Request.{Request}
+use Rattle.example_redis.specs.declared.request.Sweep.{Sweep}
+use Rattle.example_redis.specs.declared.request.Sweep.TheVariants as sweep
 use Rattle.example_redis.specs.declared.request.Tells.TheVariants as tells
 use Rattle.example_redis.specs.declared.request.When.{When}
 use Rattle.example_redis.specs.declared.request.When.TheVariants.{Always, Absent, Present}
@@ -18,15 +21,15 @@ use Rattle.example_redis.specs.declared.verb.Verb.{Verb}
 use Rattle.example_redis.specs.declared.verb.Verb.TheVariants as verb
 use Rattle.example_redis.specs.Frames.{Saying, Says, Errs, Stops, heard_of}
 use Rattle.example_redis.specs.Numbers.{number_of}
-use Rattle.example_redis.specs.Replies.{bulk, error, shown_byte, shown_reply, text_of_fault}
-use Rattle.example_redis.specs.Values.{Deed, Looks, Sets, Deletes, Adds, Appends, deed_of, okay}
+use Rattle.example_redis.specs.Replies.{bulk, error, shown_byte, shown_with, text_of_fault}
+use Rattle.example_redis.specs.Values.{Deed, Looks, Sets, Deletes, Adds, Appends, Of, All, Wish, okay, wish_of}
 use Rattle.example_redis.specs.Verbs.{name_of, verb_of}
 
--- a cell does this with the value of a key; or several cells are asked, which no request wants; or
--- this is replied; or it is, and the connection ends
+-- a cell is asked this; or several cells are, in order, and the reply is this one, whose parts are
+-- what they reply; or this is replied; or it is, and the connection ends
 pub data Plan : Type 0 where
-  Cell : ℕ → List ℕ → Deed → Plan
-  Several : Plan
+  Cell : ℕ → Wish → Plan
+  Several : List (ℕ × Wish) → Reply → Plan
   Answer : List ℕ → Plan
   Ends : List ℕ → Plan
 
@@ -42,7 +45,7 @@ cell_of key = hash_of key % CELLS
 abbrev pub plan_at : List ℕ → Deed → Plan
 plan_at key deed = if nat_lt MOST_KEY (length key)
     then Answer (error (codes "key exceeds maximum allowed size"))
-    else Cell (cell_of key) key deed
+    else Cell (cell_of key) (Of key deed)
 
 -- ---- what isn't asked
 
@@ -106,7 +109,13 @@ abbrev pub bare : Verb → Plan
 bare verb.Ping = Answer (codes "+PONG\r\n")
 bare verb.Command = Answer (codes "*0\r\n")
 bare verb.Quit = Ends okay
+bare verb.ShutDown = Ends []
 bare verb = wrong_number verb
+
+-- SHUTDOWN takes one word at most, SAVE, which makes no difference; it isn't answered
+abbrev pub plan_to_stop : List ℕ → Plan
+plan_to_stop word = if str_eq_ignore_ascii_case word (codes "save") then Ends []
+    else Answer (error (codes "syntax error"))
 
 abbrev pub with_key : Verb → List ℕ → Plan
 with_key verb.Ping key = Answer (bulk key)
@@ -119,6 +128,7 @@ with_key verb.Incr key = plan_at key (Adds (pos 1))
 with_key verb.Decr key = plan_at key (Adds (negsuc 0))
 with_key verb.Command key = Answer (codes "*0\r\n")
 with_key verb.Quit key = Ends okay
+with_key verb.ShutDown key = plan_to_stop key
 with_key verb key = wrong_number verb
 
 -- INCRBY and DECRBY
@@ -144,11 +154,80 @@ with_more verb.Command key value more = bare verb.Command
 with_more verb.Quit key value more = bare verb.Quit
 with_more verb key value more = wrong_number verb
 
+abbrev pub plan_of_one : Verb → List (List ℕ) → Plan
+plan_of_one verb [] = bare verb
+plan_of_one verb (key ∷ []) = with_key verb key
+plan_of_one verb (key ∷ value ∷ []) = with_value verb key value
+plan_of_one verb (key ∷ value ∷ more) = with_more verb key value more
+
+-- ---- those of several cells
+
+-- with so many words a command asks several cells: MSET wants pairs of words
+abbrev pub wants_several : Verb → ℕ → Bool
+wants_several verb.MGet count = nat_lt 0 count
+wants_several verb.MSet count = nat_lt 0 count && count % 2 == 0
+wants_several verb.Del count = nat_lt 1 count
+wants_several verb.Exists count = nat_lt 1 count
+wants_several verb.DbSize count = count == 0
+wants_several verb.FlushAll count = true
+wants_several verb count = false
+
+-- what a command does with each of several keys
+abbrev pub deed_of_each : Verb → Deed
+deed_of_each verb.Del = Deletes
+deed_of_each verb.Exists = Looks IsThere
+deed_of_each verb = Looks Value
+
+-- each key is asked the same, in its cell
+abbrev pub asks_of_keys : Deed → List (List ℕ) → List (ℕ × Wish)
+asks_of_keys deed keys = map (λ key. (cell_of key, Of key deed)) keys
+
+-- each key is set to the word behind it
+abbrev pub asks_of_pairs : List (List ℕ) → List (ℕ × Wish)
+asks_of_pairs [] = []
+asks_of_pairs (key ∷ []) = []
+asks_of_pairs (key ∷ value ∷ words) =
+    (cell_of key, Of key (Sets value Always tells.Done)) ∷ asks_of_pairs words
+
+-- all cells are asked the same
+abbrev pub asks_of_all : Sweep → List (ℕ × Wish)
+asks_of_all sweep = map (λ cell. (cell, All sweep)) (range_with_len 0 CELLS)
+
+-- a key is too long
+abbrev pub has_long_key : Wish → Bool
+has_long_key (Of key deed) = nat_lt MOST_KEY (length key)
+has_long_key (All sweep) = false
+
+abbrev pub have_long_key : List (ℕ × Wish) → Bool
+have_long_key [] = false
+have_long_key (ask ∷ asks) = if has_long_key ask.1 then true else have_long_key asks
+
+-- cells are asked, if no key is too long
+abbrev pub plan_at_all : List (ℕ × Wish) → Reply → Plan
+plan_at_all asks reply = if have_long_key asks
+    then Answer (error (codes "key exceeds maximum allowed size")) else Several asks reply
+
+-- FLUSHALL takes one word at most, SYNC or ASYNC, which makes no difference
+abbrev pub is_flush : List (List ℕ) → Bool
+is_flush [] = true
+is_flush (word ∷ []) = str_eq_ignore_ascii_case word (codes "sync")
+    || str_eq_ignore_ascii_case word (codes "async")
+is_flush (word ∷ words) = false
+
+abbrev pub plan_of_several : Verb → List (List ℕ) → Plan
+plan_of_several verb.MGet words = plan_at_all (asks_of_keys (Looks Value) words) reply.Items
+plan_of_several verb.Del words = plan_at_all (asks_of_keys Deletes words) reply.Total
+plan_of_several verb.Exists words = plan_at_all (asks_of_keys (Looks IsThere) words) reply.Total
+plan_of_several verb.MSet words = plan_at_all (asks_of_pairs words) reply.Okay
+plan_of_several verb.DbSize words = plan_at_all (asks_of_all sweep.Count) reply.Total
+plan_of_several verb.FlushAll words = if is_flush words
+    then plan_at_all (asks_of_all sweep.Clear) reply.Okay
+    else Answer (error (codes "syntax error"))
+plan_of_several verb words = wrong_number verb
+
 abbrev pub plan_of_verb : Verb → List (List ℕ) → Plan
-plan_of_verb verb [] = bare verb
-plan_of_verb verb (key ∷ []) = with_key verb key
-plan_of_verb verb (key ∷ value ∷ []) = with_value verb key value
-plan_of_verb verb (key ∷ value ∷ more) = with_more verb key value more
+plan_of_verb verb words = if wants_several verb (length words)
+    then plan_of_several verb words else plan_of_one verb words
 
 abbrev pub plan_of_name : List ℕ → Option Verb → List (List ℕ) → Plan
 plan_of_name name None words = unknown name words
@@ -171,8 +250,11 @@ plan_of frame = plan_of_saying (heard_of frame)
 
 -- ---- as the code has it
 
+abbrev pub asks_in : List (ℕ × Request) → List (ℕ × Wish)
+asks_in asks = map (λ ask. (ask.0, wish_of ask.1)) asks
+
 abbrev pub plan_in : Asked Request Reply → Plan
-plan_in (At cell request) = Cell cell request.key.items (deed_of request.action)
-plan_in (Each asks reply) = Several
-plan_in (Here reply) = Answer (shown_reply reply)
-plan_in (Last reply) = Ends (shown_reply reply)
+plan_in (At cell request) = Cell cell (wish_of request)
+plan_in (Each asks reply) = Several (asks_in asks.items) reply
+plan_in (Here reply) = Answer (shown_with reply [])
+plan_in (Last reply) = Ends (shown_with reply [])

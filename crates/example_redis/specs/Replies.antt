@@ -1,6 +1,7 @@
 -- What a reply is in bytes: RESP, "RESP protocol description", version 2.
-use Rattle.std.specs.Prelude.{◌==◌, ◌||◌, ℕ, ℤ, List, [], ◌∷◌, ◌++◌, codes, length, pos, if◌then◌else◌}
+use Rattle.std.specs.Prelude.{◌==◌, ◌||◌, ℕ, ℤ, List, [], ◌∷◌, ◌++◌, codes, flat_map, length, pos, if◌then◌else◌}
 use Rattle.std.specs.Fmt.{decimal, signed_decimal}
+use Rattle.std.specs.List.{sum_by}
 use Rattle.example_redis.specs.declared.frame.Fault.{Fault}
 use Rattle.example_redis.specs.declared.frame.Fault.TheVariants as fault
 use Rattle.example_redis.specs.declared.reply.Refusal.{Refusal}
@@ -44,13 +45,36 @@ integer number = codes ":" ++ signed_decimal number ++ codes "\r\n"
 abbrev pub error : List ℕ → List ℕ
 error text = codes "-ERR " ++ text ++ codes "\r\n"
 
+-- a reply that has no parts
 abbrev pub shown_reply : Reply → List ℕ
 shown_reply reply.Silence = []
+shown_reply reply.Gone = []
 shown_reply reply.Okay = codes "+OK\r\n"
 shown_reply reply.Pong = codes "+PONG\r\n"
 shown_reply reply.Nil = codes "$-1\r\n"
 shown_reply reply.NoItems = codes "*0\r\n"
+shown_reply reply.Items = codes "*0\r\n"
+shown_reply reply.Total = codes ":0\r\n"
 shown_reply (reply.Count count) = integer (pos count)
 shown_reply (reply.Number number) = integer number
 shown_reply (reply.Value value) = bulk value.items
 shown_reply (reply.Refused refusal) = error (text_of refusal)
+
+-- replies as a list, with how many they are in front
+abbrev pub list_of : List Reply → List ℕ
+list_of parts = codes "*" ++ decimal (length parts) ++ codes "\r\n" ++ flat_map shown_reply parts
+
+-- what a reply counts: nothing, if it is no count
+abbrev pub count_in : Reply → ℕ
+count_in (reply.Count count) = count
+count_in reply = 0
+
+-- the sum of what replies count
+abbrev pub total_of : List Reply → List ℕ
+total_of parts = integer (pos (sum_by count_in parts))
+
+-- a reply with its parts, where it has any: what several cells reply
+abbrev pub shown_with : Reply → List Reply → List ℕ
+shown_with reply.Items parts = list_of parts
+shown_with reply.Total parts = total_of parts
+shown_with reply parts = shown_reply reply

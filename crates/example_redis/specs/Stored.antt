@@ -1,12 +1,15 @@
 -- What the store is, as a service.
-use Rattle.std.specs.Prelude.{◌≡◌, ◌≢◌, ℕ, Vec, List, Option}
+use Rattle.std.specs.Prelude.{◌≡◌, ◌≢◌, ℕ, Vec, List, [], Option, length}
 use Rattle.std.specs.BTreeMap.{BTreeMap, get_by}
 use Rattle.std.specs.Cmp.Lexicographic.{slice_cmp}
 use Rattle.std.specs.Global.{Global}
 use Rattle.std.specs.Ordering.{nat_cmp}
 use Rattle.example_redis.specs.declared.reply.Reply.{Reply}
+use Rattle.example_redis.specs.declared.reply.Reply.TheVariants.{Count, Okay}
+use Rattle.example_redis.specs.declared.request.Sweep.{Sweep}
+use Rattle.example_redis.specs.declared.request.Sweep.TheVariants as sweep
 use Rattle.example_redis.specs.Replies.{shown_reply}
-use Rattle.example_redis.specs.Values.{Deed, bytes_in, turn_of}
+use Rattle.example_redis.specs.Values.{Deed, IsCounted, Of, All, Wish, bytes_in, turn_of}
 
 -- what a cell has under keys
 abbrev pub Store : Type 0
@@ -26,3 +29,15 @@ pub record IsServed (key : List ℕ) (deed : Deed) (before after : Store) (answe
     : Type 0 where
   pub puts : Puts key (turn_of deed (value_at before key)).value before after
   pub reply : shown_reply answer ≡ (turn_of deed (value_at before key)).reply
+  pub counted : IsCounted deed (value_at before key) answer
+
+-- DBSIZE and FLUSHALL, of one cell: its keys are counted, and stay; or there is none then
+abbrev pub IsSwept : Sweep → Store → Store → Reply → Type 0
+IsSwept sweep.Count before after answer =
+    (after ≡ before) × (answer ≡ Count (length before.entries))
+IsSwept sweep.Clear before after answer = (after.entries ≡ []) × (answer ≡ Okay)
+
+-- a step of a cell
+abbrev pub Grants : Wish → Store → Store → Reply → Type 0
+Grants (Of key deed) before after answer = IsServed key deed before after answer
+Grants (All sweep) before after answer = IsSwept sweep before after answer

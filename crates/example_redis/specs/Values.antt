@@ -1,6 +1,6 @@
 -- What becomes of the value of a key, and what is replied.
 -- The commands as in https://redis.io/docs/latest/commands/
-use Rattle.std.specs.Prelude.{◌≡◌, ◌^◌, ◌+ℤ◌, pos, ℕ, ℤ, Vec, List, [], ◌++◌, Bool, true, false, Option, Some, None, codes, length, nat_le, nat_lt, is_some, option_map, if◌then◌else◌}
+use Rattle.std.specs.Prelude.{◌≡◌, ◌^◌, ◌+ℤ◌, pos, ℕ, ℤ, Vec, List, [], ◌++◌, Bool, true, false, Option, Some, None, codes, length, nat_le, nat_lt, is_some, option_map, if◌then◌else◌, ⊤}
 use Rattle.std.specs.Global.{Global}
 use lib.Signed.{mag}
 use Rattle.std.specs.Fmt.{signed_decimal}
@@ -10,6 +10,9 @@ use Rattle.example_redis.specs.declared.request.Change.{Change}
 use Rattle.example_redis.specs.declared.request.Change.TheVariants as change
 use Rattle.example_redis.specs.declared.request.Question.{Question}
 use Rattle.example_redis.specs.declared.request.Question.TheVariants as question
+use Rattle.example_redis.specs.declared.request.Request.{Request}
+use Rattle.example_redis.specs.declared.request.Request.TheVariants as request
+use Rattle.example_redis.specs.declared.request.Sweep.{Sweep}
 use Rattle.example_redis.specs.declared.request.Tells.{Tells}
 use Rattle.example_redis.specs.declared.request.Tells.TheVariants as tells
 use Rattle.example_redis.specs.declared.request.When.{When}
@@ -17,7 +20,8 @@ use Rattle.example_redis.specs.declared.request.When.TheVariants as when
 use Rattle.example_redis.specs.declared.limits.TheConstants.{MOST_VALUE}
 use Rattle.example_redis.specs.Numbers.{number_of}
 use Rattle.example_redis.specs.declared.value.Done.{Done}
-use Rattle.example_redis.specs.Replies.{bulk, error, integer, shown_reply}
+use Rattle.example_redis.specs.declared.reply.Reply.{Reply}
+use Rattle.example_redis.specs.Replies.{bulk, count_in, error, integer, shown_reply}
 
 -- what is asked of the value of a key, or becomes of it
 pub data Deed : Type 0 where
@@ -36,6 +40,15 @@ deed_of_change (change.Append bytes) = Appends bytes.items
 abbrev pub deed_of : Action → Deed
 deed_of (Look question) = Looks question
 deed_of (Make change) = deed_of_change change
+
+-- what is asked of a cell: something is done with the value of a key, or with all its keys
+pub data Wish : Type 0 where
+  Of : List ℕ → Deed → Wish
+  All : Sweep → Wish
+
+abbrev pub wish_of : Request → Wish
+wish_of (request.Of key action) = Of key.items (deed_of action)
+wish_of (request.All sweep) = All sweep
 
 -- the value then, where there is one, and the reply
 pub record Turn : Type 0 where
@@ -117,6 +130,18 @@ turn_of (Sets value when tells) before = let done = is_set when before in record
 turn_of Deletes before = record { value = None; reply = one_if (is_some before) }
 turn_of (Adds number) before = added before (number_in before) number
 turn_of (Appends bytes) before = appended before bytes
+
+-- What is replied to EXISTS and DEL counts the key, where it is there: so the replies of several
+-- keys can be added.
+abbrev pub IsCounted : Deed → Option (List ℕ) → Reply → Type 0
+IsCounted (Looks question.Value) before answer = ⊤
+IsCounted (Looks question.IsThere) before answer =
+    count_in answer ≡ (if is_some before then 1 else 0)
+IsCounted (Looks question.Length) before answer = ⊤
+IsCounted (Sets value when tells) before answer = ⊤
+IsCounted Deletes before answer = count_in answer ≡ (if is_some before then 1 else 0)
+IsCounted (Adds number) before answer = ⊤
+IsCounted (Appends bytes) before answer = ⊤
 
 -- ---- as the code has it
 

@@ -20,13 +20,19 @@ name_of verb.IncrBy = codes "incrby"
 name_of verb.DecrBy = codes "decrby"
 name_of verb.Append = codes "append"
 name_of verb.StrLen = codes "strlen"
+name_of verb.MGet = codes "mget"
+name_of verb.MSet = codes "mset"
+name_of verb.DbSize = codes "dbsize"
+name_of verb.FlushAll = codes "flushall"
+name_of verb.ShutDown = codes "shutdown"
 name_of verb.Command = codes "command"
 name_of verb.Quit = codes "quit"
 
 abbrev pub verbs : List Verb
 verbs = verb.Ping ∷ verb.Echo ∷ verb.Get ∷ verb.Set ∷ verb.SetNx ∷ verb.GetSet ∷ verb.Del
     ∷ verb.Exists ∷ verb.Incr ∷ verb.Decr ∷ verb.IncrBy ∷ verb.DecrBy ∷ verb.Append
-    ∷ verb.StrLen ∷ verb.Command ∷ verb.Quit ∷ []
+    ∷ verb.StrLen ∷ verb.MGet ∷ verb.MSet ∷ verb.DbSize ∷ verb.FlushAll ∷ verb.ShutDown
+    ∷ verb.Command ∷ verb.Quit ∷ []
 
 -- the first command whose name this is, in letters of any case
 abbrev pub verb_among : List ℕ → List Verb → Option Verb

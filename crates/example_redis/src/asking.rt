@@ -1,7 +1,7 @@
 //! What a request asks, and of which cell.
 ghost use Rattle.std.specs.Prelude.{◌≡◌, ◌++◌, ◌∷◌, [], IfOk, MatchOption, OnOk, map};
 ghost use Rattle.std.specs.List.{fold};
-ghost use Rattle.example_redis.specs.Asking.{bare, both, cell_of, options_from, no_options, plan_at, plan_in, plan_of_verb, plan_of_words, plan_to_add, plan_to_set, plan_to_subtract, quoted, unknown, with_key, with_more, with_option, with_value, with_word_of, wrong_number};
+ghost use Rattle.example_redis.specs.Asking.{bare, both, cell_of, options_from, no_options, plan_at, plan_in, plan_of_one, plan_of_verb, plan_of_words, plan_to_add, plan_to_set, plan_to_stop, plan_to_subtract, quoted, unknown, with_key, with_more, with_option, with_value, with_word_of, wrong_number};
 ghost use Rattle.mely_net.specs.declared.asked.Asked.TheVariants as asked;
 ghost use Rattle.example_redis.specs.declared.reply.Reply.TheVariants as reply;
 ghost use Rattle.example_redis.specs.Values.{deed_of};
@@ -10,13 +10,14 @@ use crate::limits::{CELLS, MOST_KEY, MOST_SHOWN};
 use crate::number::number;
 use crate::reply::{Refusal, Reply, shown};
 use crate::request::{Action, Change, Question, Request, Tells, When};
+use crate::several::{ask_several, is_several};
 use crate::verb::{Verb, is_same_word};
 use mely_event::Memory;
 use mely_net::Asked;
 use std::alloc::Global;
 
 /// What a request asks, or what is replied to it.
-type Ask = Asked<Request, Reply>;
+pub type Ask = Asked<Request, Reply>;
 
 /// The options of SET.
 #[derive(Clone, Copy)]
@@ -26,7 +27,7 @@ pub struct Options {
 }
 
 /// The cell of a key.
-fn cell_of_key(key: &[u8]) -> u16
+pub fn cell_of_key(key: &[u8]) -> u16
     ensures { result ≡ cell_of key.now }
 {
     let mut hash: u32 = 7;
@@ -44,18 +45,18 @@ fn at(key: Vec<u8>, action: Action) -> Ask
         return refuse(Refusal::LongKey);
     }
     let cell = cell_of_key(key.as_slice());
-    Asked::At(cell, Request { key, action })
+    Asked::At(cell, Request::Of(key, action))
 }
 
 /// It isn't done.
-fn refuse(refusal: Refusal) -> Ask
+pub fn refuse(refusal: Refusal) -> Ask
     ensures { result ≡ asked.Here (reply.Refused refusal) }
 {
     Asked::Here(Reply::Refused(refusal))
 }
 
 /// A command has a wrong number of words.
-fn wrong(verb: Verb) -> Ask
+pub fn wrong(verb: Verb) -> Ask
     ensures { plan_in result ≡ wrong_number verb }
 {
     refuse(Refusal::Arguments(verb))
@@ -110,7 +111,19 @@ fn ask_bare(verb: Verb) -> Ask
         Verb::Ping => Asked::Here(Reply::Pong),
         Verb::Command => Asked::Here(Reply::NoItems),
         Verb::Quit => Asked::Last(Reply::Okay),
+        Verb::ShutDown => Asked::Last(Reply::Gone),
         _ => wrong(verb),
+    }
+}
+
+/// The store is to stop, if this word may stand behind that.
+fn ask_to_stop(word: &[u8]) -> Ask
+    ensures { plan_in result ≡ plan_to_stop word.now }
+{
+    if is_same_word(word, b"save") {
+        Asked::Last(Reply::Gone)
+    } else {
+        refuse(Refusal::Syntax)
     }
 }
 
@@ -128,6 +141,7 @@ fn ask_with_key(verb: Verb, key: Vec<u8>) -> Ask
         Verb::Decr => at(key, Action::Make(Change::Add(-1))),
         Verb::Command => Asked::Here(Reply::NoItems),
         Verb::Quit => Asked::Last(Reply::Okay),
+        Verb::ShutDown => ask_to_stop(key.as_slice()),
         _ => wrong(verb),
     }
 }
@@ -264,9 +278,9 @@ fn shift(words: &mut Vec<Vec<u8>>) -> Option<Vec<u8>>
     }
 }
 
-/// What a command asks.
-fn ask_verb(verb: Verb, mut words: Vec<Vec<u8>>) -> Ask
-    ensures { plan_in result ≡ plan_of_verb verb (map (λ word. word.items) words.items) }
+/// What a command asks that asks one cell at most.
+fn ask_one(verb: Verb, mut words: Vec<Vec<u8>>) -> Ask
+    ensures { plan_in result ≡ plan_of_one verb (map (λ word. word.items) words.items) }
 {
     let Some(key) = shift(&mut words) else {
         return ask_bare(verb);
@@ -274,10 +288,23 @@ fn ask_verb(verb: Verb, mut words: Vec<Vec<u8>>) -> Ask
     let Some(value) = shift(&mut words) else {
         return ask_with_key(verb, key);
     };
-    if words.is_empty() {
+    let more = words.as_slice();
+    if more.is_empty() {
         ask_with_value(verb, key, value)
     } else {
-        ask_with_more(verb, key, value, words.as_slice())
+        ask_with_more(verb, key, value, more)
+    }
+}
+
+/// What a command asks.
+fn ask_verb(alloc: Global, verb: Verb, words: Vec<Vec<u8>>) -> Result<Ask, Memory>
+    ensures { IfOk result (λ asked. plan_in asked
+        ≡ plan_of_verb verb (map (λ word. word.items) words.items)) }
+{
+    if is_several(verb, words.len()) {
+        ask_several(alloc, verb, words)
+    } else {
+        Ok(ask_one(verb, words))
     }
 }
 
@@ -294,7 +321,7 @@ pub fn ask(alloc: Global, mut words: Vec<Vec<u8>>) -> Result<Ask, Memory>
         return Ok(Asked::Here(Reply::Silence));
     };
     match Verb::named(name.as_slice()) {
-        Some(verb) => Ok(ask_verb(verb, words)),
+        Some(verb) => ask_verb(alloc, verb, words),
         None => refuse_unknown(alloc, name.as_slice(), words.as_slice()),
     }
 }

@@ -1,15 +1,17 @@
-//! `example_redis PORT CLIENTS [WORKERS] [--file PATH]`: a store of values under keys that speaks
-//! the protocol of Redis, so that its clients can be clients of this.
+//! `example_redis PORT CLIENTS [WORKERS] [--file PATH] [--stop-file PATH]`: a store of values under
+//! keys that speaks the protocol of Redis, so that its clients can be clients of this.
 //!
 //! It listens on 127.0.0.1, says where, and takes so many connections in all, up to 1,024; when all
 //! of them have ended it says how many failed, and ends. Once the last has come, nobody takes
 //! further ones, and who moves less than 240 bytes a second for five seconds is cut, as by `swsd`.
+//! At SHUTDOWN, and once the stop file is there, it takes nobody either, and cuts after five seconds
+//! whoever is still there.
 //! Without words it takes standard input for what one client sends, and writes what that client is
 //! told: so a file of requests can be tried without a network.
 //!
-//! It knows PING, ECHO, GET, SET (with NX, XX and GET), SETNX, GETSET, DEL and EXISTS of one key,
-//! INCR, DECR, INCRBY, DECRBY, APPEND, STRLEN, COMMAND (which lists none) and QUIT, as arrays of
-//! bulk strings or as lines. A key has 1,024 bytes at most, a value 65,536, a request 262,144 and
+//! It knows PING, ECHO, GET, SET (with NX, XX and GET), SETNX, GETSET, DEL, EXISTS, MGET, MSET, INCR,
+//! DECR, INCRBY, DECRBY, APPEND, STRLEN, DBSIZE, FLUSHALL, COMMAND (which lists none), SHUTDOWN and
+//! QUIT, as arrays of bulk strings or as lines. A key has 1,024 bytes at most, a value 65,536, a request 262,144 and
 //! 1,024 words. With a file it begins with what that has, and is written there when it ends.
 //!
 //! It is an example of a service, to copy: `frame.rt` says where a request ends, `asking.rt` what
@@ -29,11 +31,13 @@ mod keeping;
 mod laws;
 mod limits;
 mod number;
+mod outside;
 mod over_bytes;
 mod over_tcp;
 mod reply;
 mod request;
 mod saved;
+mod several;
 mod store;
 mod value;
 mod verb;
@@ -98,7 +102,9 @@ fn main(rt: HostRuntime) -> io::Result<ExitCode> {
         Words::Port(words) => words,
         Words::Input => return serve_input(&rt, &rt),
         Words::Wrong => {
-            eprintln!(rt; "usage: example_redis PORT CLIENTS [WORKERS] [--file PATH]")?;
+            eprintln!(rt;
+                "usage: example_redis PORT CLIENTS [WORKERS] [--file PATH] [--stop-file PATH]"
+            )?;
             eprintln!(rt; "       example_redis < REQUESTS")?;
             eprintln!(rt; "CLIENTS is from 1 to 1024, WORKERS from 1 to 64; PORT 0 is any port")?;
             return Ok(ExitCode::from(2));

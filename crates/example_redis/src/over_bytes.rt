@@ -3,6 +3,7 @@ ghost use Rattle.std.specs.Prelude.{IfOk};
 ghost use Rattle.sws_link.specs.MemWorlds.{IsInitialMemLink};
 ghost use Rattle.mely_net.specs.Served.{HasServed};
 
+use crate::outside::Nothing;
 use crate::reply::Reply;
 use crate::request::Request;
 use crate::store::{Store, Values};
@@ -38,13 +39,13 @@ fn link_of(alloc: Global, sent: Vec<u8>) -> Result<MemLink, Memory>
 /// There was no memory.
 fn run<R: Threads + Wait + Sync>(rt: &R, alloc: Global, link: MemLink) -> Result<Left, Memory>
     requires { IsInitialMemLink link }
-    ensures { IfOk result (λ ended. HasServed (⟦<Store as Service>⟧.rules_of record {})
-        ⟦<MemLink as Link>⟧ 1 ended.values.items) }
+    ensures { let rules = ⟦<Store<Nothing> as Service>⟧.rules_of record { outside = record {} } in
+        IfOk result (λ ended. HasServed rules ⟦<MemLink as Link>⟧ 1 ended.values.items) }
 {
     let mut links = Vec::new(alloc);
     links.push(link)?;
     let world = MemWorld::new(links, Vec::new(alloc));
-    serve(rt, alloc, 2, Store, world)
+    serve(rt, alloc, 2, Store { outside: Nothing }, world)
 }
 
 /// What a client is told that sends these bytes, and no more.

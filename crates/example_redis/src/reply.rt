@@ -1,6 +1,7 @@
 //! What is replied.
-ghost use Rattle.std.specs.Prelude.{◌≡◌, ◌++◌, OnOk, pos};
-ghost use Rattle.example_redis.specs.Replies.{bulk, error, integer, shown_byte, shown_reply, text_of, text_of_fault};
+ghost use Rattle.std.specs.Fmt.{decimal};
+ghost use Rattle.std.specs.Prelude.{◌≡◌, ◌++◌, OnOk, codes, pos};
+ghost use Rattle.example_redis.specs.Replies.{bulk, count_in, error, integer, list_of, shown_byte, shown_reply, shown_with, text_of, text_of_fault, total_of};
 
 use crate::frame::Fault;
 use crate::verb::Verb;
@@ -46,6 +47,9 @@ pub enum Refusal {
 pub enum Reply {
     /// Nothing at all, to a request without words.
     Silence,
+
+    /// Nothing at all, as the store is to stop.
+    Gone,
     Okay,
     Pong,
 
@@ -54,6 +58,12 @@ pub enum Reply {
 
     /// A list without items.
     NoItems,
+
+    /// The list of its parts, which are what several cells reply.
+    Items,
+
+    /// The sum of its parts.
+    Total,
 
     /// How many there are.
     Count(usize),
@@ -172,23 +182,81 @@ fn write_error(refusal: &Refusal, out: &mut Vec<u8>) -> Result<(), Memory>
     put(out, b"\r\n")
 }
 
-/// Puts a reply behind others.
-///
-/// # Errors
-///
-/// There was no memory.
-pub fn write(reply: &Reply, out: &mut Vec<u8>) -> Result<(), Memory>
+/// Puts a reply behind others, which has no parts.
+fn write_one(reply: &Reply, out: &mut Vec<u8>) -> Result<(), Memory>
     ensures { OnOk result (out.new.items ≡ out.old.items ++ shown_reply reply.now) }
 {
     match reply {
-        Reply::Silence => Ok(()),
+        Reply::Silence | Reply::Gone => Ok(()),
         Reply::Okay => put(out, b"+OK\r\n"),
         Reply::Pong => put(out, b"+PONG\r\n"),
         Reply::Nil => put(out, b"$-1\r\n"),
-        Reply::NoItems => put(out, b"*0\r\n"),
+        Reply::NoItems | Reply::Items => put(out, b"*0\r\n"),
+        Reply::Total => put(out, b":0\r\n"),
         Reply::Count(count) => write_count(*count, out),
         Reply::Number(number) => write_number(*number, out),
         Reply::Value(value) => write_value(value.as_slice(), out),
         Reply::Refused(refusal) => write_error(refusal, out),
+    }
+}
+
+/// Puts what a list of so many items begins with behind others.
+pub fn begin_list(count: usize, out: &mut Vec<u8>) -> Result<(), Memory>
+    ensures { OnOk result (out.new.items
+        ≡ out.old.items ++ codes "*" ++ decimal count ++ codes "\r\n") }
+{
+    let mut digits = Buffer::new();
+    put(out, b"*")?;
+    put(out, digits.format(count).as_bytes())?;
+    put(out, b"\r\n")
+}
+
+/// Puts a list of replies behind others.
+fn write_list(parts: &[Reply], out: &mut Vec<u8>) -> Result<(), Memory>
+    ensures { OnOk result (out.new.items ≡ out.old.items ++ list_of parts.now) }
+{
+    begin_list(parts.len(), out)?;
+    'parts: for part in parts {
+        write_one(part, out)?;
+    }
+    Ok(())
+}
+
+/// What a reply counts, where it is a count.
+fn counted(reply: &Reply) -> usize
+    ensures { result ≡ count_in reply.now }
+{
+    match reply {
+        Reply::Count(count) => *count,
+        _ => 0,
+    }
+}
+
+/// Puts the sum of what replies count behind others.
+fn write_total(parts: &[Reply], out: &mut Vec<u8>) -> Result<(), Memory>
+    ensures { OnOk result (out.new.items ≡ out.old.items ++ total_of parts.now) }
+{
+    let mut total: u128 = 0;
+    'parts: for part in parts {
+        total += counted(part) as u128;
+    }
+    let mut digits = Buffer::new();
+    put(out, b":")?;
+    put(out, digits.format(total).as_bytes())?;
+    put(out, b"\r\n")
+}
+
+/// Puts a reply behind others, with its parts where it has any.
+///
+/// # Errors
+///
+/// There was no memory.
+pub fn write(reply: &Reply, parts: &[Reply], out: &mut Vec<u8>) -> Result<(), Memory>
+    ensures { OnOk result (out.new.items ≡ out.old.items ++ shown_with reply.now parts.now) }
+{
+    match reply {
+        Reply::Items => write_list(parts, out),
+        Reply::Total => write_total(parts, out),
+        _ => write_one(reply, out),
     }
 }

@@ -61,9 +61,22 @@ pub enum Action {
     Make(Change),
 }
 
-/// What a cell is asked: of which key, and what is done with its value.
+/// What is done with all keys of a cell.
+#[derive(Clone, Copy)]
+pub enum Sweep {
+    /// It is said how many there are.
+    Count,
+
+    /// There is none then.
+    Clear,
+}
+
+/// What a cell is asked.
 #[derive(Drop)]
-pub struct Request {
-    pub key: Vec<u8>,
-    pub action: Action,
+pub enum Request {
+    /// Something is done with the value of a key.
+    Of(Vec<u8>, Action),
+
+    /// Something is done with all its keys.
+    All(Sweep),
 }

@@ -1,36 +1,23 @@
 //! A store as the bytes of a file, and back.
-ghost use Rattle.std.specs.Fmt.{decimal};
-ghost use Rattle.std.specs.Prelude.{◌≡◌, ◌++◌, IfOk, OnOk, codes, length};
+ghost use Rattle.std.specs.Prelude.{◌≡◌, ◌++◌, IfOk, OnOk, length};
 ghost use Rattle.example_redis.specs.Saved.{saved, saved_entries, saved_entry};
 ghost use Rattle.example_redis.specs.declared.limits.TheConstants.{CELLS};
 
 use crate::frame::cut;
 use crate::limits::CELLS;
-use crate::reply::{Reply, put, write_value};
+use crate::reply::{Reply, begin_list, write_value};
 use crate::request::{Action, Change, Request, Tells, When};
-use crate::store::{Store, Values};
-use itoa::Buffer;
+use crate::store::{Values, ask_frame};
 use mely_event::Memory;
-use mely_net::{Asked, Cut, Service};
+use mely_net::{Asked, Cut};
 use std::alloc::{AllocError, Global};
 use std::collections::BTreeMap;
-
-/// Puts what a request of so many words begins with behind others.
-fn begin_request(words: usize, out: &mut Vec<u8>) -> Result<(), Memory>
-    ensures { OnOk result (out.new.items
-        ≡ out.old.items ++ codes "*" ++ decimal words ++ codes "\r\n") }
-{
-    let mut digits = Buffer::new();
-    put(out, b"*")?;
-    put(out, digits.format(words).as_bytes())?;
-    put(out, b"\r\n")
-}
 
 /// Puts the request that sets a key behind others.
 fn save_entry(key: &[u8], value: &[u8], out: &mut Vec<u8>) -> Result<(), Memory>
     ensures { OnOk result (out.new.items ≡ out.old.items ++ saved_entry key.now value.now) }
 {
-    begin_request(3, out)?;
+    begin_list(3, out)?;
     write_value(b"SET", out)?;
     write_value(key, out)?;
     write_value(value, out)
@@ -58,7 +45,7 @@ pub fn save(alloc: Global, cells: &[Values]) -> Result<Vec<u8>, Memory>
     'cells: for values in cells {
         save_cell(values, &mut out)?;
     }
-    begin_request(1, &mut out)?;
+    begin_list(1, &mut out)?;
     write_value(b"QUIT", &mut out)?;
     Ok(out)
 }
@@ -119,7 +106,7 @@ enum Said {
 /// What a request in a file says.
 fn read_asked(asked: Asked<Request, Reply>) -> Said {
     match asked {
-        Asked::At(cell, Request { key, action }) => match action {
+        Asked::At(cell, Request::Of(key, action)) => match action {
             Action::Make(Change::Set(value, When::Always, Tells::Done)) => {
                 Said::Entry(cell, key, value)
             }
@@ -153,7 +140,7 @@ fn read(alloc: Global, bytes: &[u8]) -> Result<Vec<Values>, Unsaved>
         let Cut::Frame(size) = cut(rest) else {
             return Err(Unsaved::Torn(from));
         };
-        match read_asked(Store.ask(alloc, &rest[..size])?) {
+        match read_asked(ask_frame(alloc, &rest[..size])?) {
             Said::Entry(cell, key, value) => {
                 if !put_in(&mut cells, cell, key, value)? {
                     return Err(Unsaved::Damaged(from));

@@ -1,7 +1,7 @@
 //! The value of a key.
-ghost use Rattle.std.specs.Prelude.{◌≡◌, IfOk, None, Some, false, option_copied, true};
-ghost use Rattle.example_redis.specs.Replies.{error, shown_reply, text_of};
-ghost use Rattle.example_redis.specs.Values.{Adds, Appends, IsTurn, Sets, answer_to, bulk_of, bytes_in, deed_of_change, is_set, number_in, one_if, reply_to_set, turn_of};
+ghost use Rattle.std.specs.Prelude.{◌≡◌, IfOk, None, Some, false, if◌then◌else◌, option_copied, true};
+ghost use Rattle.example_redis.specs.Replies.{count_in, error, shown_reply, text_of};
+ghost use Rattle.example_redis.specs.Values.{Adds, Appends, IsCounted, IsTurn, Looks, Sets, answer_to, bulk_of, bytes_in, deed_of_change, is_set, number_in, one_if, reply_to_set, turn_of};
 
 use crate::limits::MOST_VALUE;
 use crate::number::number;
@@ -20,7 +20,8 @@ pub struct Done {
 
 /// 1 for what is so, and 0 for what isn't.
 fn tell(is: bool) -> Reply
-    ensures { shown_reply result ≡ one_if is }
+    ensures reply { shown_reply result ≡ one_if is }
+    ensures count { count_in result ≡ (if is then 1 else 0) }
 {
     if is { Reply::Count(1) } else { Reply::Count(0) }
 }
@@ -52,8 +53,10 @@ fn copy_out(alloc: Global, value: Option<&Vec<u8>>) -> Result<Reply, Memory>
 ///
 /// There was no memory.
 pub fn look(alloc: Global, value: Option<&Vec<u8>>, question: Question) -> Result<Reply, Memory>
-    ensures { IfOk result (λ reply. shown_reply reply
+    ensures reply { IfOk result (λ reply. shown_reply reply
         ≡ answer_to question (bytes_in (option_copied value.entry))) }
+    ensures counted { IfOk result (IsCounted (Looks question)
+        (bytes_in (option_copied value.entry))) }
 {
     match question {
         Question::Value => copy_out(alloc, value),
@@ -203,7 +206,9 @@ fn append(before: Option<Vec<u8>>, bytes: Vec<u8>) -> Result<Done, Memory>
 ///
 /// There was no memory.
 pub fn change_value(alloc: Global, before: Option<Vec<u8>>, change: Change) -> Result<Done, Memory>
-    ensures { IfOk result (IsTurn (turn_of (deed_of_change change) (bytes_in before))) }
+    ensures turn { IfOk result (IsTurn (turn_of (deed_of_change change) (bytes_in before))) }
+    ensures counted { IfOk result (λ done. IsCounted (deed_of_change change) (bytes_in before)
+        done.reply) }
 {
     match change {
         Change::Set(value, when, tells) => set(alloc, before, value, when, tells),

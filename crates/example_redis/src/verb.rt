@@ -20,12 +20,17 @@ pub enum Verb {
     DecrBy,
     Append,
     StrLen,
+    MGet,
+    MSet,
+    DbSize,
+    FlushAll,
+    ShutDown,
     Command,
     Quit,
 }
 
 /// All commands.
-const VERBS: [Verb; 16] = [
+const VERBS: [Verb; 21] = [
     Verb::Ping,
     Verb::Echo,
     Verb::Get,
@@ -40,6 +45,11 @@ const VERBS: [Verb; 16] = [
     Verb::DecrBy,
     Verb::Append,
     Verb::StrLen,
+    Verb::MGet,
+    Verb::MSet,
+    Verb::DbSize,
+    Verb::FlushAll,
+    Verb::ShutDown,
     Verb::Command,
     Verb::Quit,
 ];
@@ -71,6 +81,11 @@ impl Verb {
             Verb::DecrBy => b"decrby",
             Verb::Append => b"append",
             Verb::StrLen => b"strlen",
+            Verb::MGet => b"mget",
+            Verb::MSet => b"mset",
+            Verb::DbSize => b"dbsize",
+            Verb::FlushAll => b"flushall",
+            Verb::ShutDown => b"shutdown",
             Verb::Command => b"command",
             Verb::Quit => b"quit",
         }

@@ -4,7 +4,8 @@ ghost use Rattle.example_redis.specs.Words.{IsAllowed, IsInRange};
 
 use crate::limits::MOST_CLIENTS;
 use mely_net::MOST_WORKERS;
-use std::env;
+use std::env::{self, Args};
+use std::iter::Skip;
 
 /// A port to listen at.
 #[derive(Drop)]
@@ -17,6 +18,9 @@ pub struct Listening {
 
     /// Where the store is kept, if it is.
     pub file: Option<String>,
+
+    /// The file that has the store stop once it is there, if one may.
+    pub stop: Option<String>,
 }
 
 /// What the words say.
@@ -44,9 +48,38 @@ fn number(word: &str, least: u16, most: u16) -> Option<u16>
     Some(number)
 }
 
-/// Whether a word says that the file comes behind it.
-fn is_option(word: &str) -> bool {
-    word == "--file"
+/// What the options say.
+#[derive(Drop)]
+struct Paths {
+    file: Option<String>,
+    stop: Option<String>,
+}
+
+/// How many options there are at most.
+const OPTIONS: u8 = 2;
+
+/// What the options say, each of which stands once at most. The first word was taken already.
+fn read_paths(mut words: Skip<Args>, first: Option<String>) -> Option<Paths> {
+    let mut paths = Paths {
+        file: None,
+        stop: None,
+    };
+    let mut word = first;
+    for _ in 0..OPTIONS {
+        let Some(option) = word else {
+            return Some(paths);
+        };
+        let path = words.next()?;
+        if option.as_str() == "--file" && paths.file.is_none() {
+            paths.file = Some(path);
+        } else if option.as_str() == "--stop-file" && paths.stop.is_none() {
+            paths.stop = Some(path);
+        } else {
+            return None;
+        }
+        word = words.next();
+    }
+    if word.is_some() { None } else { Some(paths) }
 }
 
 /// What the words say of a port.
@@ -59,28 +92,18 @@ fn read_port(rt: &HostRuntime) -> Option<Listening>
     let mut workers = 2;
     let mut word = words.next();
     if let Some(text) = &word {
-        if !is_option(text.as_str()) {
+        if !text.as_str().starts_with("--") {
             workers = number(text.as_str(), 1, MOST_WORKERS)?;
             word = words.next();
         }
     }
-    let file = match word {
-        Some(text) => {
-            if !is_option(text.as_str()) {
-                return None;
-            }
-            Some(words.next()?)
-        }
-        None => None,
-    };
-    if words.next().is_some() {
-        return None;
-    }
+    let Paths { file, stop } = read_paths(words, word)?;
     Some(Listening {
         port,
         clients,
         workers,
         file,
+        stop,
     })
 }
 

@@ -1,3 +1,4 @@
+mod GivenLemmas
 mod KeepLemmas
 mod PointLemmas
 pub mod MadeLemmas

@@ -1,5 +1,5 @@
 //! What the lock of a shard keeps.
-ghost use Rattle.std.specs.Prelude.{◌≡◌, ◌<◌, ◌≤◌, [], ◌∷◌, ◌++◌, List, IfOk, OnOk, slice_get};
+ghost use Rattle.std.specs.Prelude.{◌≡◌, ◌<◌, ◌≤◌, [], ◌∷◌, ◌++◌, List, IfOk, IfErr, OnOk, slice_get};
 
 use mely_event::{Colour, Event, Fits, Kept, Memory, Trail, Unregistered};
 use mely_history::{After, NoSteal, NoTake, Registered, Setup, Stolen};
@@ -93,7 +93,8 @@ impl<S: Fits<P>, P> KeptShard<S, P> {
     ///
     /// # Errors
     ///
-    /// There was no memory: the shard is dropped.
+    /// There was no memory: the shard is dropped. [`new_or_back`](KeptShard::new_or_back) hands it
+    /// back.
     pub fn new(
         alloc: Global,
         shard: Shard<S, P>,
@@ -107,11 +108,51 @@ impl<S: Fits<P>, P> KeptShard<S, P> {
         ensures { IfOk result (λ kept.
             kept ≡ record { has = shard; notes = []; sample = sample.now.value }) }
     {
-        Ok(KeptShard {
-            shard: Box::new(alloc, shard)?,
-            notes: Log::new(),
-            sample: Snapshot::of(sample),
-        })
+        match KeptShard::new_or_back(alloc, shard, sample) {
+            Ok(made) => Ok(made),
+            Err(_) => Err(Memory),
+        }
+    }
+
+    /// What [`new`](KeptShard::new) makes, or the shard again.
+    ///
+    /// # Errors
+    ///
+    /// There was no memory: the shard is handed back as it came.
+    pub fn new_or_back(
+        alloc: Global,
+        shard: Shard<S, P>,
+        sample: &Snapshot<S>,
+    ) -> Result<KeptShard<S, P>, Shard<S, P>>
+        requires framed { HaveFrame S.frame_of (S.frame_of sample.now.value) (givens shard) }
+        requires untouched { IsUntouched shard }
+        ensures made { IfOk result (λ kept.
+            kept ≡ record { has = shard; notes = []; sample = sample.now.value }) }
+        ensures back { IfErr result (λ back. back ≡ shard) }
+    {
+        match Box::new(alloc, shard) {
+            Ok(shard) => Ok(KeptShard {
+                shard,
+                notes: Log::new(),
+                sample: Snapshot::of(sample),
+            }),
+            Err(refused) => Err(refused.value),
+        }
+    }
+
+    /// The states as they were given, in ascending order of their colours, of a shard in which
+    /// nothing was noted. It takes no memory.
+    pub fn into_givens(self) -> Vec<S>
+    where
+        S: Drop,
+        P: Drop,
+        requires { self.notes ≡ [] }
+        ensures { result.items ≡ givens self.has }
+    {
+        let shard = self.into_shard();
+        let _entries = shard.history();
+        let (_, states, _) = shard.into_parts();
+        states
     }
 
     /// The shard, once its lock is closed. Its states have still the frame that the lock was told,

@@ -3,12 +3,11 @@ ghost use Rattle.std.specs.Prelude.{◌≡◌};
 ghost use Rattle.mely_lock.specs.Rule.{lock_words};
 
 use crate::closing::{gather, take_back};
-use crate::dealing::deal;
+use crate::dealing::{deal, lay_round};
 use crate::held::Held;
 use crate::lock_key::LockKey;
-use crate::lock_rule::{LockTable, PassSeat, SPARE, WORDS};
+use crate::lock_rule::{LockTable, SPARE};
 use crate::pass::Pass;
-use atomic_table::Table;
 use mely_event::{Kept, Memory};
 use std::alloc::Global;
 use std::marker::PhantomData;
@@ -35,7 +34,7 @@ pub struct Ticketed<V: Kept> {
 }
 
 impl<V: Kept + Drop> Ticketed<V> {
-    ghost use Rattle.std.specs.Prelude.{ℕ, ◌<◌, [], length, slice_index_or, IfOk, All};
+    ghost use Rattle.std.specs.Prelude.{ℕ, ◌<◌, [], length, slice_index_or, IfOk, IfErr, All};
     ghost use Rattle.mely_lock.specs.Words.{initial_value, front, IsPassOf, IsOutside};
 
     /// A lock round `value`, whose history is empty, and its passes, 1 to 65,535, numbered from 0
@@ -45,7 +44,8 @@ impl<V: Kept + Drop> Ticketed<V> {
     ///
     /// # Errors
     ///
-    /// There was no memory: the value is dropped.
+    /// There was no memory: the value is dropped. [`new_or_back`](Ticketed::new_or_back) hands it
+    /// back.
     pub fn new(alloc: Global, value: V, passes: u16) -> Result<(Ticketed<V>, Vec<Pass<V>>), Memory>
         requires some { 0 < passes }
         requires empty { V.history_of value ≡ [] }
@@ -56,23 +56,47 @@ impl<V: Kept + Drop> Ticketed<V> {
         ensures numbers { IfOk result (λ r. (n : ℕ) (p : _) → n < passes
             → (slice_index_or r.1.items n p).number ≡ n) }
     {
+        match Ticketed::new_or_back(alloc, value, passes) {
+            Ok(made) => Ok(made),
+            Err(_) => Err(Memory),
+        }
+    }
+
+    /// What [`new`](Ticketed::new) makes, or the value again.
+    ///
+    /// # Errors
+    ///
+    /// There was no memory: the value is handed back as it came.
+    pub fn new_or_back(
+        alloc: Global,
+        value: V,
+        passes: u16,
+    ) -> Result<(Ticketed<V>, Vec<Pass<V>>), V>
+        requires some { 0 < passes }
+        requires empty { V.history_of value ≡ [] }
+        ensures frame { IfOk result (λ r. V.frame_of (initial_value r.0) ≡ V.frame_of value) }
+        ensures count { IfOk result (λ r. (r.0.passes ≡ passes) × (length r.1.items ≡ passes)) }
+        ensures each { IfOk result (λ r. All (λ p. IsPassOf V.frame_of r.0 p × IsOutside p
+            × (front p ≡ [])) r.1.items) }
+        ensures numbers { IfOk result (λ r. (n : ℕ) (p : _) → n < passes
+            → (slice_index_or r.1.items n p).number ≡ n) }
+        ensures back { IfErr result (λ back. back ≡ value) }
+    {
+        let Ok(apart) = Vec::with_capacity(alloc, SPARE) else {
+            return Err(value);
+        };
+        let Ok(dealt) = Vec::with_capacity(alloc, passes as usize) else {
+            return Err(value);
+        };
+        let Ok(slots) = Vec::with_capacity(alloc, 1) else {
+            return Err(value);
+        };
         let about = LockKey {
             value: Snapshot::of(&value),
             passes,
         };
-        let mut slots = Vec::new(alloc);
-        slots.push(Some(value))?;
-        let (room, mut rest): (LockTable<V>, PassSeat<V>) = match Table::new(
-            alloc,
-            &[0; WORDS],
-            slots,
-            &about,
-        ) {
-            Ok(made) => made,
-            Err(_) => return Err(Memory),
-        };
-        let apart = Vec::with_capacity(alloc, SPARE)?;
-        let dealt = deal(alloc, &room, &mut rest, passes)?;
+        let (room, mut rest) = lay_round(alloc, value, &about, slots)?;
+        let dealt = deal(&room, &mut rest, passes, dealt);
         let sleepers = AtomicU32::new(0);
         Ok((
             Ticketed {

@@ -226,27 +226,30 @@ fn initial_slot<S, P>(alloc: Global, setup: &Setup, colour: u32, state: S) -> Co
     }
 }
 
-/// A slot for each state, of the colours of a shard in ascending order.
+/// A slot for each state, of the colours of a shard in ascending order, in the emptied list, which
+/// has room for them.
 pub(crate) fn slots_of<S: Drop, P: Drop>(
     alloc: Global,
     setup: &Setup,
     shard: u16,
     states: Vec<S>,
-) -> Result<Vec<ColourSlot<S, P>>, Memory>
+    emptied: Vec<ColourSlot<S, P>>,
+) -> Vec<ColourSlot<S, P>>
     requires numbered { shard < (shape_of setup.now).shards }
     requires few { (i : ℕ) → i < length states.items → (colour_at setup.now shard i).0
         < colours_of setup.now }
-    ensures many { IfOk result (λ slots. length slots.items ≡ length states.items) }
-    ensures first { IfOk result (λ slots.
-        AreInitialSlots setup.now shard states.items slots.items) }
+    requires emptied { emptied.items ≡ [] }
+    requires reserved { length states.items ≤ vec_capacity emptied }
+    ensures many { length result.items ≡ length states.items }
+    ensures first { AreInitialSlots setup.now shard states.items result.items }
 {
-    let mut slots = Vec::with_capacity(alloc, states.len())?;
+    let mut slots = emptied;
     let mut colour = u32::from(shard);
     for state in states {
         slots.push_reserved(initial_slot(alloc, setup, colour, state));
         colour += u32::from(setup.shards());
     }
-    Ok(slots)
+    slots
 }
 
 /// Whether each slot rests with nothing queued.

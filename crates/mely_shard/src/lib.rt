@@ -24,5 +24,7 @@
 
 mod colour_slot;
 mod shard;
+mod shard_room;
 
 pub use shard::Shard;
+pub use shard_room::ShardRoom;

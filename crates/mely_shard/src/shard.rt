@@ -2,6 +2,7 @@
 ghost use Rattle.std.specs.Prelude.{◌≡◌, ◌<◌, ◌≤◌, ◌+◌, ◌-◌, ◌/◌, ◌%◌, ◌^◌, ◌++◌, ◌∷◌, [], ℕ, List, Option, ◌≢◌, length, IfOk, IfErr, OnOk, OnErr, option_copied, IsTrue, ◌↔◌};
 
 use crate::colour_slot::{ColourSlot, all_drained, slots_of, take_apart};
+use crate::shard_room::ShardRoom;
 use mely_event::{Colour, Event, Fits, Memory, Trail, Unregistered};
 use mely_history::{After, Entry, History, NoSteal, NoTake, Registered, Setup, Stolen};
 use mely_queue::Turn;
@@ -91,7 +92,8 @@ impl<S: Fits<P>, P> Shard<S, P> {
     ///
     /// # Errors
     ///
-    /// `Memory`: the states are dropped.
+    /// `Memory`: the states are dropped. Whoever wants to keep them makes the room first, and then
+    /// the shard in it: [`in_room`](Shard::in_room).
     pub fn new(
         alloc: Global,
         setup: &Setup,
@@ -106,22 +108,43 @@ impl<S: Fits<P>, P> Shard<S, P> {
         ensures made { IfOk result (λ made. IsInitialShard setup.now shard states.items made) }
         ensures kept { IfOk result (λ made. IsConsistent S.Trail S.fits_under made) }
     {
-        let slots = slots_of(alloc, setup, shard, states)?;
-        let states = Vec::with_capacity(alloc, slots.len())?;
-        let queues = Vec::with_capacity(alloc, slots.len())?;
-        Ok(Shard {
+        let room = ShardRoom::new(alloc, states.len())?;
+        Ok(Shard::in_room(room, setup, shard, states))
+    }
+
+    /// What [`new`](Shard::new) makes, in room that was made beforehand for at least as many
+    /// colours as there are states. It takes no memory.
+    pub fn in_room(room: ShardRoom<S, P>, setup: &Setup, shard: u16, states: Vec<S>) -> Shard<S, P>
+    where
+        S: Drop,
+        P: Drop,
+        requires numbered { shard < (shape_of setup.now).shards }
+        requires first { AreInitialStates S.Trail setup.now shard states.items }
+        requires room { length states.items ≤ room.colours }
+        ensures made { IsInitialShard setup.now shard states.items result }
+        ensures kept { IsConsistent S.Trail S.fits_under result }
+    {
+        let ShardRoom {
+            alloc,
+            colours: _,
+            slots,
+            states: homes,
+            queues,
+        } = room;
+        let slots = slots_of(alloc, setup, shard, states, slots);
+        Shard {
             setup: *setup,
             shard,
             slots,
             alloc,
-            states,
+            states: homes,
             queues,
             apart: [0; 8],
             history: History::new(alloc, setup.is_listed()),
             running: 0,
             emptied: Vec::new(alloc),
             behind: [0; 8],
-        })
+        }
     }
 
     /// The history, and the states and the queued events by colour, in the order of the colours. It

@@ -5,3 +5,4 @@ pub mod SpreadLemmas
 pub mod PartsLemmas
 pub mod PartsOfStandingLemmas
 pub mod InitialStatesLemmas
+pub mod BackLemmas

@@ -18,8 +18,8 @@
 //!
 //! It is for whoever runs coloured events in an order of their own: to replay a schedule, to try an
 //! app against every order, or to end what threads began ([`Weave::gather`]). What an initial weave
-//! is made of is public too ([`deal`], [`shards_of`], [`chains_of`], [`rested_of`]), for whoever
-//! puts shards and chains behind locks.
+//! is made of is public too ([`ShardsRoom`], [`deal`], [`shards_of`], [`chains_of`],
+//! [`rested_of`]), for whoever puts shards and chains behind locks.
 //!
 //! ```text
 //! let mut weave = Weave::new(alloc, &setup, states)?;
@@ -38,6 +38,7 @@ mod making;
 mod parts;
 mod room;
 mod running;
+mod shards_room;
 mod side;
 mod weave;
 
@@ -47,4 +48,5 @@ pub use making::{chains_of, deal, rested_of, shards_of};
 pub use parts::WeaveParts;
 pub use room::WeaveRoom;
 pub use running::Went;
+pub use shards_room::ShardsRoom;
 pub use weave::Weave;

@@ -1,11 +1,12 @@
 //! A weave at first, and what it is made of.
-ghost use Rattle.std.specs.Prelude.{◌≡◌, ℕ, IfOk, Some, [], length, slice_get};
+ghost use Rattle.std.specs.Prelude.{◌≡◌, ℕ, IfOk, IfErr, Some, [], length, slice_get};
 ghost use Rattle.mely_history.specs.Setup.{shape_of};
 ghost use Rattle.mely_shard.specs.Shard.{AreInitialStates, IsInitialShard};
 ghost use Rattle.mely_weave.specs.Dealing.{AreDealt, AtEach};
 ghost use Rattle.mely_weave.specs.Making.{AreInitial, IsInitialWeave, empty_chain, initial_idle_worker, initial_worker};
 
 use crate::room::WeaveRoom;
+use crate::shards_room::ShardsRoom;
 use crate::weave::Weave;
 use mely_core::CoreQueue;
 use mely_event::{Fits, Memory, Trail};
@@ -24,17 +25,43 @@ impl<S: Fits<P> + Drop, P: Drop> Weave<S, P> {
     ///
     /// # Errors
     ///
-    /// There was no memory: the states are dropped.
+    /// There was no memory: the states are dropped. [`new_or_back`](Weave::new_or_back) hands them
+    /// back.
     pub fn new(alloc: Global, setup: &Setup, states: Vec<S>) -> Result<Weave<S, P>, Memory>
         requires { AreInitial S.Trail setup.now states.items }
         ensures first { IfOk result (λ weave. IsInitialWeave setup.now states.items weave) }
         ensures stands { IfOk result (λ weave. StandsWell S.Trail S.fits_under weave) }
     {
-        let room = WeaveRoom::new(alloc, setup)?;
-        let by_shard = deal(alloc, setup, states)?;
-        let shards = shards_of(alloc, setup, by_shard)?;
-        let chains = chains_of(alloc, setup)?;
-        let workers = workers_of(alloc, setup)?;
+        match Weave::new_or_back(alloc, setup, states) {
+            Ok(made) => Ok(made),
+            Err(_) => Err(Memory),
+        }
+    }
+
+    /// What [`new`](Weave::new) makes, or the states again.
+    ///
+    /// # Errors
+    ///
+    /// There was no memory: the states are handed back as they came.
+    pub fn new_or_back(alloc: Global, setup: &Setup, states: Vec<S>) -> Result<Weave<S, P>, Vec<S>>
+        requires { AreInitial S.Trail setup.now states.items }
+        ensures first { IfOk result (λ weave. IsInitialWeave setup.now states.items weave) }
+        ensures stands { IfOk result (λ weave. StandsWell S.Trail S.fits_under weave) }
+        ensures back { IfErr result (λ back. back ≡ states) }
+    {
+        let Ok(room) = WeaveRoom::new(alloc, setup) else {
+            return Err(states);
+        };
+        let Ok(shards_room) = ShardsRoom::new(alloc, setup) else {
+            return Err(states);
+        };
+        let Ok(chains) = chains_of(alloc, setup) else {
+            return Err(states);
+        };
+        let Ok(workers) = workers_of(alloc, setup) else {
+            return Err(states);
+        };
+        let shards = shards_room.fill(states);
         Ok(Weave::gather(room, shards, chains, workers))
     }
 }

@@ -87,6 +87,40 @@ impl<S: Fits<P> + Drop, P: Drop> Weave<S, P> {
     }
 }
 
+impl<S: Fits<P> + Drop, P: Drop> WeaveRoom<S, P> {
+    ghost use Rattle.mely_history.specs.Setup.{shape_of, colours_of};
+    ghost use Rattle.mely_shard.specs.Shard.{IsInitialShard, givens};
+
+    /// The states by colour, out of the shards of this setup in which nothing was registered, as
+    /// [`ShardsRoom::fill`](crate::ShardsRoom::fill) makes them. It takes no memory.
+    pub fn states_of(self, shards: Vec<Shard<S, P>>) -> Vec<S>
+        requires count { length shards.items ≡ (shape_of self).shards }
+        requires first { AtEach (λ shard has. IsInitialShard self shard (givens has) has)
+            shards.items }
+        requires full { AreFull givens (shape_of self).shards (colours_of self) shards.items }
+        ensures many { length result.items ≡ colours_of self }
+        ensures dealt { AreDealt givens (shape_of self).shards result.items shards.items }
+    {
+        let WeaveRoom {
+            setup,
+            mut histories,
+            mut states,
+            queued: _,
+            lost: _,
+            mut states_by_shard,
+            mut queued_by_shard,
+        } = self;
+        take_apart(
+            shards,
+            &mut histories,
+            &mut states_by_shard,
+            &mut queued_by_shard,
+        );
+        spread(setup.colours(), states_by_shard, &mut states);
+        states
+    }
+}
+
 /// Takes the shards apart, of which no colour runs, into lists that have room for what they give.
 fn take_apart<S: Fits<P> + Drop, P: Drop>(
     shards: Vec<Shard<S, P>>,

@@ -65,11 +65,11 @@ table host other file form found moved modified nothing part =
 
 -- what the request selects of the file that it names
 abbrev selected : SiteState → Request → Selection
-selected site asked = selection_for asked (file_for site asked)
+selected site asked = selection_for site asked (file_for site asked)
 
 -- what it selects of the file that its answer is about
 abbrev chosen : SiteState → Request → Selection
-chosen site asked = selection_for asked (subject_for site asked)
+chosen site asked = selection_for site asked (subject_for site asked)
 
 -- the tests behind that of the target
 abbrev by_target : SiteState → Request → Bool → Status
@@ -78,10 +78,10 @@ by_target site asked form =
 
 answer_at : (site : SiteState) (asked : Request) (last : Bool) (status : Status) → request_status site asked ≡ status
     → request_answer site asked last
-    ≡ response site status (subject_for site asked) (chosen site asked) ((row_of status).closes || is_closing asked || last) (is_head_request asked)
+    ≡ response site status (subject_for site asked) (chosen site asked) ((row_of status).closes || is_closing site.options asked || last) (is_head_request asked)
 unfolding request_answer
 answer_at site asked last status e =
-    ap (λ s. response site s (subject_for site asked) (chosen site asked) ((row_of s).closes || is_closing asked || last) (is_head_request asked)) e
+    ap (λ s. response site s (subject_for site asked) (chosen site asked) ((row_of s).closes || is_closing site.options asked || last) (is_head_request asked)) e
 
 -- a refusal is the same whatever the request names or selects
 unnamed : (site : SiteState) (status : Status) (file : Option File) (selection : Selection) (closes is_head : Bool) → IsTrue (is_fixed status)
@@ -108,13 +108,13 @@ answer-no_host site asked last host = sym (
 
 -- with a known method that a file has not
 pub answer-other_method : (site : SiteState) (asked : Request) (last : Bool) → is_malformed site asked ≡ false → is_one_of other_methods asked.method ≡ true
-    → response site MethodNotAllowed None Whole (is_closing asked || last) (is_head_request asked) ≡ request_answer site asked last
+    → response site MethodNotAllowed None Whole (is_closing site.options asked || last) (is_head_request asked) ≡ request_answer site asked last
 unfolding request_status
 answer-other_method site asked last host other = sym (
     answer_at site asked last MethodNotAllowed (
     ap (λ t. table t (is_one_of other_methods asked.method) (not (is_one_of file_methods asked.method)) (is_none (path_and_query asked.target)) (is_none (subject_for site asked)) (is_none (file_for site asked)) (is_unmodified site.date asked.fields) (is_unsatisfied (selected site asked)) (is_part (selected site asked))) host
     ∙ ap (λ t. table false t (not (is_one_of file_methods asked.method)) (is_none (path_and_query asked.target)) (is_none (subject_for site asked)) (is_none (file_for site asked)) (is_unmodified site.date asked.fields) (is_unsatisfied (selected site asked)) (is_part (selected site asked))) other)
-    ∙ unnamed site MethodNotAllowed (subject_for site asked) (chosen site asked) (is_closing asked || last) (is_head_request asked) refl)
+    ∙ unnamed site MethodNotAllowed (subject_for site asked) (chosen site asked) (is_closing site.options asked || last) (is_head_request asked) refl)
 
 -- the tests of the methods are passed
 status_from_file : (site : SiteState) (asked : Request) → is_malformed site asked ≡ false → is_one_of other_methods asked.method ≡ false
@@ -127,12 +127,12 @@ status_from_file site asked host other =
 
 -- with an unknown method
 pub answer-unknown_method : (site : SiteState) (asked : Request) (last : Bool) → is_malformed site asked ≡ false → is_one_of other_methods asked.method ≡ false → is_one_of file_methods asked.method ≡ false
-    → response site NotImplemented None Whole (is_closing asked || last) (is_head_request asked) ≡ request_answer site asked last
+    → response site NotImplemented None Whole (is_closing site.options asked || last) (is_head_request asked) ≡ request_answer site asked last
 answer-unknown_method site asked last host other file = sym (
     answer_at site asked last NotImplemented (
     status_from_file site asked host other
     ∙ ap (λ t. table false false (not t) (is_none (path_and_query asked.target)) (is_none (subject_for site asked)) (is_none (file_for site asked)) (is_unmodified site.date asked.fields) (is_unsatisfied (selected site asked)) (is_part (selected site asked))) file)
-    ∙ unnamed site NotImplemented (subject_for site asked) (chosen site asked) (is_closing asked || last) (is_head_request asked) refl)
+    ∙ unnamed site NotImplemented (subject_for site asked) (chosen site asked) (is_closing site.options asked || last) (is_head_request asked) refl)
 
 -- the tests of the target are left
 status_from_target : (site : SiteState) (asked : Request) → is_malformed site asked ≡ false → is_one_of other_methods asked.method ≡ false → is_one_of file_methods asked.method ≡ true
@@ -152,7 +152,7 @@ answer-other_form site asked last host other file form = sym (
 -- the status of a request for a file, by what is selected of it
 abbrev by_file : SiteState → Request → Option File → Option File → Status
 by_file site asked subject file =
-    table false false false false (is_none subject) (is_none file) (is_unmodified site.date asked.fields) (is_unsatisfied (selection_for asked file)) (is_part (selection_for asked file))
+    table false false false false (is_none subject) (is_none file) (is_unmodified site.date asked.fields) (is_unsatisfied (selection_for site asked file)) (is_part (selection_for site asked file))
 
 table-file : (modified : Bool) (selection : Selection)
     → table false false false false false false modified (is_unsatisfied selection) (is_part selection) ≡ (if modified then NotModified else status_by selection)
@@ -178,7 +178,7 @@ moved site index selection closes is_head = refl
 -- with a target that names a file
 answer-named : (site : SiteState) (asked : Request) (last : Bool) (path name : List ℕ) → is_malformed site asked ≡ false → is_one_of other_methods asked.method ≡ false → is_one_of file_methods asked.method ≡ true
     → path_and_query asked.target ≡ Some path → name_of site.options asked.target ≡ Some name
-    → name_answer site asked name (is_closing asked || last) (is_head_request asked) ≡ request_answer site asked last
+    → name_answer site asked name (is_closing site.options asked || last) (is_head_request asked) ≡ request_answer site asked last
 answer-named site asked last path name host other file form named =
     by_named (file_named name site.files) (folder_index site name) (ap (option_and_then (λ n. file_named n site.files)) named) (ap (option_and_then (folder_index site)) named)
   where
@@ -191,24 +191,24 @@ answer-named site asked last path name host other file form named =
         ∙ ap (λ o. by_file site asked o (file_for site asked)) (subject found index e f) ∙ ap (by_file site asked (option_or found index)) e
 
     by_named : (found index : Option File) → file_for site asked ≡ found → folder_for site asked ≡ index
-        → file_answer site asked found index (is_closing asked || last) (is_head_request asked) ≡ request_answer site asked last
+        → file_answer site asked found index (is_closing site.options asked || last) (is_head_request asked) ≡ request_answer site asked last
     by_named None None e f = sym (
         answer_at site asked last NotFound (status None None e f)
-        ∙ unnamed site NotFound (subject_for site asked) (chosen site asked) (is_closing asked || last) (is_head_request asked) refl)
+        ∙ unnamed site NotFound (subject_for site asked) (chosen site asked) (is_closing site.options asked || last) (is_head_request asked) refl)
     by_named None (Some index) e f = sym (
         answer_at site asked last MovedPermanently (status None (Some index) e f)
-        ∙ ap (λ o. response site MovedPermanently o (selection_for asked o) (is_closing asked || last) (is_head_request asked)) (subject None (Some index) e f)
-        ∙ moved site index (selection_for asked (Some index)) (is_closing asked || last) (is_head_request asked))
+        ∙ ap (λ o. response site MovedPermanently o (selection_for site asked o) (is_closing site.options asked || last) (is_head_request asked)) (subject None (Some index) e f)
+        ∙ moved site index (selection_for site asked (Some index)) (is_closing site.options asked || last) (is_head_request asked))
     by_named (Some found) index e f = sym (
         answer_at site asked last kind (status (Some found) index e f ∙ table-file modified selection)
-        ∙ ap (λ o. response site kind o (selection_for asked o) ((row_of kind).closes || is_closing asked || last) (is_head_request asked)) (subject (Some found) index e f)
-        ∙ ap (λ c. response site kind (Some found) selection (c || last) (is_head_request asked)) (file_closes modified selection (is_closing asked)))
+        ∙ ap (λ o. response site kind o (selection_for site asked o) ((row_of kind).closes || is_closing site.options asked || last) (is_head_request asked)) (subject (Some found) index e f)
+        ∙ ap (λ c. response site kind (Some found) selection (c || last) (is_head_request asked)) (file_closes modified selection (is_closing site.options asked)))
       where
         modified : Bool
         modified = is_unmodified site.date asked.fields
 
         selection : Selection
-        selection = selection_in asked (length found.1)
+        selection = selection_in site asked (length found.1)
 
         kind : Status
         kind = if modified then NotModified else status_by selection
@@ -229,14 +229,14 @@ mapped_none (Some path) e = absurd (cc)
 -- the target says the path that was answered
 pub Sends-named : (sent : Sent) (site : SiteState) (asked : Request) (last closes is_head : Bool) (target rest path : List ℕ)
     → is_malformed site asked ≡ false → is_one_of other_methods asked.method ≡ false → is_one_of file_methods asked.method ≡ true
-    → closes ≡ (is_closing asked || last) → is_head ≡ is_head_request asked
+    → closes ≡ (is_closing site.options asked || last) → is_head ≡ is_head_request asked
     → target ≡ asked.target → Some rest ≡ option_map (drop 1) (path_and_query target) → path ≡ path_of rest
     → Sends sent (name_answer site asked (name_said_by site.options (47 ∷ path)) closes is_head)
     → Sends sent (request_answer site asked last)
 Sends-named sent site asked last closes is_head target rest path host other file c h t r p s =
     let at = mapped_some (path_and_query asked.target) rest (r ∙ ap (λ x. option_map (drop 1) (path_and_query x)) t) in
     subst (Sends sent) (answer-named site asked last at.0 (name_said_by site.options (47 ∷ path_of rest)) host other file at.1 (name_of-path site.options asked.target at.0 rest at.1 at.2))
-    (Sends-with sent (name_answer site asked (name_said_by site.options (47 ∷ path_of rest))) closes (is_closing asked || last) is_head (is_head_request asked) c h
+    (Sends-with sent (name_answer site asked (name_said_by site.options (47 ∷ path_of rest))) closes (is_closing site.options asked || last) is_head (is_head_request asked) c h
     (subst (λ x. Sends sent (name_answer site asked (name_said_by site.options (47 ∷ x)) closes is_head)) p s))
 
 -- ---- what a head asks

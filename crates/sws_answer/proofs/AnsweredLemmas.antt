@@ -19,7 +19,7 @@ or_true false = refl
 -- the last answer of a connection closes
 pub closes-last : (site : SiteState) (asked : Asked) → (answer_of site asked true).closes ≡ true
 unfolding request_answer response
-closes-last site (request asked) = or_true ((row_of (request_status site asked)).closes || is_closing asked)
+closes-last site (request asked) = or_true ((row_of (request_status site asked)).closes || is_closing site.options asked)
 closes-last site not_request = refl
 closes-last site too_long = refl
 

@@ -110,13 +110,13 @@ abbrev FitsFile : Option File → Selection → Type 0
 FitsFile None selection = selection ≡ Whole
 FitsFile (Some file) selection = IsWithin (length file.1) selection
 
-range_of-short : (file : Option File) (selection : Selection) → IsShort file → FitsFile file selection → IsShortRange (range_of file selection)
+range_of-short : (file : Option File) (selection : Selection) (sent : ℕ) → IsShort file → FitsFile file selection → sent ≤ size_limit → IsShortRange (range_of file selection) sent
 unfolding IsShort
-range_of-short None selection short fits = tt
-range_of-short (Some file) Whole short fits = tt
-range_of-short (Some file) (Part first last) short fits =
-    let few = short.0 in ((let a = fits.0 in let b = fits.1 in omega (arith, few)), (let b = fits.1 in omega (arith, few)), omega (arith, few))
-range_of-short (Some file) Unsatisfied short fits = let few = short.0 in omega (arith, few)
+range_of-short None selection sent short fits small = tt
+range_of-short (Some file) Whole sent short fits small = tt
+range_of-short (Some file) (Part first last) sent short fits small =
+    let few = short.0 in ((let a = fits.0 in let b = fits.1 in omega (arith, few)), (let b = fits.1 in omega (arith, few)), omega (arith, few), small)
+range_of-short (Some file) Unsatisfied sent short fits small = let few = short.0 in (omega (arith, few), small)
 
 response-short : (site : SiteState) (status : Status) (file : Option File) (selection : Selection) (closes is_head : Bool) → IsWithinLimits site.files → IsShort file → FitsFile file selection
     → length (text_of (response site status file selection closes is_head)) ≤ text_limit
@@ -128,6 +128,7 @@ response-short site status file selection closes is_head within short fits =
       status = status;
       location = location_of (row_of status).has_location file;
       closes = closes;
+      says_kept = site.options.keeps_alive;
       date = site.date;
       max_age = site.options.added.max_age;
       range = range_of file selection;
@@ -136,20 +137,20 @@ response-short site status file selection closes is_head within short fits =
       headers = site.options.added.headers;
     } in
     by_head (head_text head) (content_of site status file selection).bytes
-    (let head_short = head_text-short head content.media_type (omega arith) (range_of-short file selection short fits) site.options.added.short_age site.options.added.short_headers in
+    (let head_short = head_text-short head content.media_type (omega arith) (range_of-short file selection (length (content_of site status file selection).bytes) short fits few) site.options.added.short_age site.options.added.short_headers in
     let line = location-short (row_of status).has_location file short in omega (arith, head_short, line)) content.bytes is_head
   where
     by_head : (head bytes : List ℕ) → length head ≤ 8192 → length bytes ≤ size_limit → (t : Bool) → length (head ++ (if t then [] else bytes)) ≤ text_limit
     by_head head bytes short few true = omega (arith, length-append head [])
     by_head head bytes short few false = omega (arith, length-append head bytes)
 
-selection-fits : (asked : Request) (file : Option File) → FitsFile file (selection_for asked file)
-selection-fits asked None = refl
-selection-fits asked (Some file) = selection_for-within asked file
+selection-fits : (site : SiteState) (asked : Request) (file : Option File) → FitsFile file (selection_for site asked file)
+selection-fits site asked None = refl
+selection-fits site asked (Some file) = selection_for-within site asked file
 
 -- an answer out of a site within its limits has at most so many bytes
 pub answer_of-short : (site : SiteState) (asked : Asked) (last : Bool) → IsWithinLimits site.files → length (text_of (answer_of site asked last)) ≤ text_limit
 unfolding request_answer IsShort
-answer_of-short site (request asked) last within = response-short _ _ _ _ _ _ within (subject-short site asked within) (selection-fits asked (subject_for site asked))
+answer_of-short site (request asked) last within = response-short _ _ _ _ _ _ within (subject-short site asked within) (selection-fits site asked (subject_for site asked))
 answer_of-short site not_request last within = response-short _ _ _ _ _ _ within tt refl
 answer_of-short site too_long last within = response-short _ _ _ _ _ _ within tt refl

@@ -1,6 +1,6 @@
 -- Ranges of a file.
-use Rattle.std.specs.Prelude.{◌≡◌, ◌≢◌, ℕ, ◌+◌, ◌-◌, ◌*◌, ◌^◌, ◌<◌, get_or, ◌≤◌, ◌==◌, ◌&&◌, Bool, true, false, not, nat_lt, nat_le, min, if◌then◌else◌, List, take, drop, slice_range, length, codes, Option, Some, None, ⊤, option_map, option_and_then}
-use Rattle.std.specs.Str.{bytes_eq, str_eq_ignore_ascii_case, all_ascii_digits}
+use Rattle.std.specs.Prelude.{◌≡◌, ◌≢◌, ℕ, ◌+◌, ◌-◌, ◌*◌, ◌^◌, ◌<◌, get_or, ◌≤◌, ◌==◌, Bool, true, false, nat_lt, nat_le, min, if◌then◌else◌, List, take, drop, slice_range, length, codes, Option, Some, None, ⊤, option_map, option_and_then}
+use Rattle.std.specs.Str.{str_eq_ignore_ascii_case, all_ascii_digits}
 use Rattle.std.specs.Str.Parse.{digits_value}
 use Rattle.std.specs.Char.{digit_value}
 use Rattle.std.proofs.lemmas.Str.Parse.{IsNumeralModel, numerals_by_value, tells_all_ascii_digits, digit_at, digits_value_short, digits_value-take-le}
@@ -19,13 +19,14 @@ use Rattle.sws_site.specs.ResponseHeads.{ResponseHead, head_text}
 use Rattle.sws_site.specs.Fixed.{plain_text}
 use Rattle.sws_site.specs.Limits.{size_limit}
 use Rattle.sws_site.specs.Files.{File}
+use Rattle.sws_site.specs.Site.{SiteState}
 use Rattle.sws_site.proofs.HeadLengthsLemmas.{head_text-short}
 use Rattle.sws_answer.specs.declared.ranges.RangeSpec.{RangeSpec}
 use Rattle.sws_answer.specs.declared.ranges.RangeSpec.TheVariants.{Between, Onward, Suffix}
 use Rattle.sws_answer.specs.declared.ranges.Selection.TheVariants.{Whole, Part, Unsatisfied}
-use Rattle.sws_answer.specs.Fields.{values_of, has_field, trim_blanks}
+use Rattle.sws_answer.specs.Fields.{values_of, trim_blanks}
 use Rattle.sws_answer.specs.Conditions.{one_of}
-use Rattle.sws_answer.specs.Ranges.{number_in, range_between, spec_of, is_dash, spec_in_value, asked_range, part_from, selection_of, selection_by, selection_in, selection_for, IsWithin}
+use Rattle.sws_answer.specs.Ranges.{number_in, range_between, spec_of, is_dash, spec_in_value, may_ask_range, asked_range, part_from, selection_of, selection_by, selection_in, selection_for, IsWithin}
 
 -- ---- numbers
 
@@ -108,9 +109,9 @@ spec_in_value-ordered value =
     (if-ordered (nat_lt dash (length text)) _ _ (spec_of-ordered (take dash text) (drop (dash + 1) text)) none-ordered)
     none-ordered
 
-asked_range-ordered : (asked : Request) → AreOrdered (asked_range asked)
-asked_range-ordered asked =
-    if-ordered (bytes_eq asked.method (codes "GET") && not (has_field (codes "if-range") asked.fields)) _ _
+asked_range-ordered : (site : SiteState) (asked : Request) → AreOrdered (asked_range site asked)
+asked_range-ordered site asked =
+    if-ordered (may_ask_range site asked) _ _
     (then-ordered (one_of (values_of (codes "range") asked.fields)) _ spec_in_value-ordered) none-ordered
 
 -- ---- what is selected lies within the file
@@ -143,11 +144,11 @@ selection_by-within len (Some (Between first last)) ordered = part_from-within l
 selection_by-within len (Some (Onward first)) ordered = part_from-within len first (len - 1) (λ h. omega arith)
 selection_by-within len (Some (Suffix count)) ordered = suffix-within len count
 
-pub selection_in-within : (asked : Request) (len : ℕ) → IsWithin len (selection_in asked len)
-selection_in-within asked len = selection_by-within len (asked_range asked) (asked_range-ordered asked)
+pub selection_in-within : (site : SiteState) (asked : Request) (len : ℕ) → IsWithin len (selection_in site asked len)
+selection_in-within site asked len = selection_by-within len (asked_range site asked) (asked_range-ordered site asked)
 
-pub selection_for-within : (asked : Request) (file : File) → IsWithin (length file.1) (selection_for asked (Some file))
-selection_for-within asked file = selection_in-within asked (length file.1)
+pub selection_for-within : (site : SiteState) (asked : Request) (file : File) → IsWithin (length file.1) (selection_for site asked (Some file))
+selection_for-within site asked file = selection_in-within site asked (length file.1)
 
 -- a part of some bytes is no longer than they are
 pub length-part-le : (bytes : List ℕ) (first last limit : ℕ) → length bytes ≤ limit → length (slice_range bytes first last) ≤ limit
@@ -161,6 +162,7 @@ part_head options closes first last date media_type bytes =
       status = PartialContent;
       location = None;
       closes = closes;
+      says_kept = options.keeps_alive;
       date = date;
       max_age = options.added.max_age;
       range = Some (Selected first last (length bytes));
@@ -177,11 +179,11 @@ pub part_head-short : (options : SiteOptions) (closes : Bool) (first last : ℕ)
     → first ≤ last → last < length bytes → length (head_text (part_head options closes first last date media_type bytes)) ≤ 1360
 part_head-short options closes first last date media_type bytes short few ordered within =
     let part = length-part-le bytes first (last + 1) size_limit few in
-    head_text-short (part_head options closes first last date media_type bytes) short (omega arith) (omega arith, omega arith, omega arith) options.added.short_age options.added.short_headers
+    head_text-short (part_head options closes first last date media_type bytes) short (omega arith) (omega arith, omega arith, omega arith, omega arith) options.added.short_age options.added.short_headers
 
 abbrev pub no_part_head : SiteOptions → Bool → Option HttpDate → ℕ → ResponseHead
 no_part_head options closes date len =
-    record { status = RangeNotSatisfiable; location = None; closes = closes; date = date; max_age = options.added.max_age; range = Some (NoSuch len); media_type = plain_text; len = 26; headers = options.added.headers }
+    record { status = RangeNotSatisfiable; location = None; closes = closes; says_kept = options.keeps_alive; date = date; max_age = options.added.max_age; range = Some (NoSuch len); media_type = plain_text; len = 26; headers = options.added.headers }
 
 pub no_part_head-short : (options : SiteOptions) (closes : Bool) (date : Option HttpDate) (len : ℕ) → len ≤ size_limit → length (head_text (no_part_head options closes date len)) ≤ 1360
-no_part_head-short options closes date len few = head_text-short (no_part_head options closes date len) (lit≤ tt) (lit< tt) (omega arith) options.added.short_age options.added.short_headers
+no_part_head-short options closes date len few = head_text-short (no_part_head options closes date len) (lit≤ tt) (lit< tt) (omega arith, lit≤ tt) options.added.short_age options.added.short_headers

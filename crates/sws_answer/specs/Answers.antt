@@ -112,6 +112,7 @@ response site status file selection closes is_head =
         status = status;
         location = location_of (row_of status).has_location file;
         closes = closes;
+        says_kept = site.options.keeps_alive;
         date = site.date;
         max_age = site.options.added.max_age;
         range = range_of file selection;
@@ -134,8 +135,8 @@ unfoldable pub request_answer : SiteState → Request → Bool → Answer
 request_answer site asked last =
     let status = request_status site asked in
     let file = subject_for site asked in
-    let closes = (row_of status).closes || is_closing asked || last in
-    response site status file (selection_for asked file) closes (is_head_request asked)
+    let closes = (row_of status).closes || is_closing site.options asked || last in
+    response site status file (selection_for site asked file) closes (is_head_request asked)
 
 -- the response to what was asked; of what is no request no method is known, so its body is sent
 abbrev pub response_to : SiteState → Asked → Bool → Answer

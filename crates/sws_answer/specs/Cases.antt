@@ -70,8 +70,8 @@ request_cases site asked =
     ∷ (is_none (subject_for site asked), NotFound)
     ∷ (is_none (file_for site asked), MovedPermanently)
     ∷ (is_unmodified site.date asked.fields, NotModified)
-    ∷ (is_unsatisfied (selection_for asked (file_for site asked)), RangeNotSatisfiable)
-    ∷ (is_part (selection_for asked (file_for site asked)), PartialContent)
+    ∷ (is_unsatisfied (selection_for site asked (file_for site asked)), RangeNotSatisfiable)
+    ∷ (is_part (selection_for site asked (file_for site asked)), PartialContent)
     ∷ []
 
 -- the status of the first case that holds of the request, and success where none

@@ -36,7 +36,7 @@ folder_answer site (Some index) closes is_head =
 abbrev pub file_answer : SiteState → Request → Option File → Option File → Bool → Bool → Answer
 file_answer site asked None index closes is_head = folder_answer site index closes is_head
 file_answer site asked (Some file) index closes is_head =
-    let selection = selection_in asked (length file.1) in
+    let selection = selection_in site asked (length file.1) in
     response site (if is_unmodified site.date asked.fields then NotModified else status_by selection)
     (Some file) selection closes is_head
 

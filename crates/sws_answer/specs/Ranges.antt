@@ -1,15 +1,19 @@
 -- The part of a file that a request asks for (RFC 9110, section 14).
-use Rattle.std.specs.Prelude.{ℕ, ◌<◌, ◌≤◌, ⊤, ◌+◌, ◌-◌, ◌==◌, ◌&&◌, Bool, true, false, not, nat_lt, nat_le, min, if◌then◌else◌, List, take, drop, length, codes, Option, Some, None, option_map, option_and_then}
+use Rattle.std.specs.Prelude.{ℕ, ◌<◌, ◌≤◌, ⊤, ◌+◌, ◌-◌, ◌==◌, ◌&&◌, ◌||◌, Bool, true, false, not, nat_lt, nat_le, min, if◌then◌else◌, List, take, drop, length, codes, Option, Some, None, option_map, option_and_then}
 use Rattle.std.specs.List.{position_or_len}
+use Rattle.std.specs.Option.{option_map_or}
 use Rattle.std.specs.Str.{bytes_eq, str_eq_ignore_ascii_case, all_ascii_digits}
 use Rattle.std.specs.Str.Parse.{digits_value}
 use Rattle.sws_request.specs.Request.{Request}
+use Rattle.httpdate.specs.declared.date.HttpDate.{HttpDate}
+use Rattle.httpdate.specs.Date.{date_text}
 use Rattle.sws_site.specs.Files.{File}
+use Rattle.sws_site.specs.Site.{SiteState}
 use Rattle.sws_answer.specs.declared.ranges.RangeSpec.{RangeSpec}
 use Rattle.sws_answer.specs.declared.ranges.RangeSpec.TheVariants.{Between, Onward, Suffix}
 use Rattle.sws_answer.specs.declared.ranges.Selection.{Selection}
 use Rattle.sws_answer.specs.declared.ranges.Selection.TheVariants.{Whole, Part, Unsatisfied}
-use Rattle.sws_answer.specs.Fields.{values_of, has_field, trim_blanks}
+use Rattle.sws_answer.specs.Fields.{Field, values_of, has_field, trim_blanks}
 use Rattle.sws_answer.specs.Conditions.{one_of}
 
 -- ---- what is asked
@@ -49,11 +53,31 @@ spec_in_value value =
     let text = trim_blanks value in
     if str_eq_ignore_ascii_case (take 6 text) (codes "bytes=") then spec_in (drop 6 text) else None
 
--- the range that a request asks for, if it asks for one: by GET, with one field Range and no
--- condition on it; all else is ignored
-abbrev pub asked_range : Request → Option RangeSpec
-asked_range asked =
-    if bytes_eq asked.method (codes "GET") && not (has_field (codes "if-range") asked.fields)
+-- the value is the date, byte for byte as responses have it (RFC 9110, section 13.1.5)
+abbrev pub is_text_of : Option HttpDate → List ℕ → Bool
+is_text_of None value = false
+is_text_of (Some date) value = bytes_eq value (date_text date)
+
+-- the one condition on a range names the date of the site, where the site reads such conditions
+-- (RFC 9110, section 13.1.5)
+abbrev pub is_date_named : SiteState → List Field → Bool
+is_date_named site fields =
+    site.options.reads_if_range
+    && option_map_or (is_text_of site.date) (one_of (values_of (codes "if-range") fields)) false
+
+-- no condition on a range is given, or the one that is given holds
+abbrev pub is_range_kept : SiteState → List Field → Bool
+is_range_kept site fields = not (has_field (codes "if-range") fields) || is_date_named site fields
+
+-- the request may ask the site for a range: by GET, and with no condition on it that fails
+abbrev pub may_ask_range : SiteState → Request → Bool
+may_ask_range site asked =
+    bytes_eq asked.method (codes "GET") && is_range_kept site asked.fields
+
+-- the range that it asks for, if it does so, with one field Range; all else is ignored
+abbrev pub asked_range : SiteState → Request → Option RangeSpec
+asked_range site asked =
+    if may_ask_range site asked
     then option_and_then spec_in_value (one_of (values_of (codes "range") asked.fields))
     else None
 
@@ -75,14 +99,14 @@ abbrev pub selection_by : ℕ → Option RangeSpec → Selection
 selection_by len None = Whole
 selection_by len (Some spec) = selection_of len spec
 
--- what the request selects of a file of so many bytes
-abbrev pub selection_in : Request → ℕ → Selection
-selection_in asked len = selection_by len (asked_range asked)
+-- what the request selects of a file of the site of so many bytes
+abbrev pub selection_in : SiteState → Request → ℕ → Selection
+selection_in site asked len = selection_by len (asked_range site asked)
 
 -- what the request selects of the file that it names, if it names one
-abbrev pub selection_for : Request → Option File → Selection
-selection_for asked None = Whole
-selection_for asked (Some file) = selection_in asked (length file.1)
+abbrev pub selection_for : SiteState → Request → Option File → Selection
+selection_for site asked None = Whole
+selection_for site asked (Some file) = selection_in site asked (length file.1)
 
 -- a part of the file is selected
 abbrev pub is_part : Selection → Bool

@@ -24,11 +24,11 @@ use crate::path_room::PathRoom;
 use crate::ranges::{Selection, select_part};
 use crate::targets::{behind_first_slash, path_part, write_name};
 use sws_parts::Parts;
-use sws_request::{RequestView, view};
+use sws_request::{FieldRoom, RequestRef, view_in};
 use sws_site::{ContentRange, HeadKind, HeadParts, Page, Site, Status, write_head};
 
 /// Whether the request has not the one field Host that it needs.
-fn is_without_host(request: &RequestView<'_>) -> bool
+fn is_without_host(request: &RequestRef<'_, '_>) -> bool
     ensures { result ≡ lacks_host request.now }
 {
     let hosts = count_of(request, b"host");
@@ -36,7 +36,7 @@ fn is_without_host(request: &RequestView<'_>) -> bool
 }
 
 /// Whether the site refuses the request whatever it asks.
-fn is_refused(site: &Site, request: &RequestView<'_>) -> bool
+fn is_refused(site: &Site, request: &RequestRef<'_, '_>) -> bool
     ensures { result ≡ is_malformed site.now request.now }
 {
     is_without_host(request) || site.options().refuses_ambiguous && is_read_in_two_ways(request)
@@ -63,7 +63,7 @@ fn is_file_method(method: &[u8]) -> bool
 }
 
 /// Whether the content is left out of the response.
-fn leaves_content_out(request: &RequestView<'_>) -> bool
+fn leaves_content_out(request: &RequestRef<'_, '_>) -> bool
     ensures { result ≡ is_head_request request.now }
 {
     request.method() == b"HEAD".as_slice()
@@ -217,7 +217,7 @@ fn refuse_range<'s>(
 /// The answer to a request whose target names a file.
 fn answer_file<'s>(
     site: &'s Site,
-    request: &RequestView<'_>,
+    request: &RequestRef<'_, '_>,
     page: &Page<'s>,
     closes: bool,
     is_head: bool,
@@ -230,7 +230,7 @@ fn answer_file<'s>(
     if is_not_modified(site.http_date(), request) {
         return say_not_modified(site, page, closes, is_head, parts);
     }
-    match select_part(request, page.body().len()) {
+    match select_part(site, request, page.body().len()) {
         Selection::Whole => send_file(site, page, closes, is_head, parts),
         Selection::Part(first, last) => send_part(site, page, first, last, closes, is_head, parts),
         Selection::Unsatisfied => refuse_range(site, page, closes, is_head, parts),
@@ -287,7 +287,7 @@ fn answer_folder<'s>(
 /// The answer to a request for the path, which stands without its first slash.
 fn answer_path<'s>(
     site: &'s Site,
-    request: &RequestView<'_>,
+    request: &RequestRef<'_, '_>,
     path: &[u8],
     closes: bool,
     is_head: bool,
@@ -308,24 +308,24 @@ fn answer_path<'s>(
 }
 
 /// Whether the connection ends after the response, unless that closes by itself.
-fn closes_after(request: &RequestView<'_>, last: bool) -> bool
-    ensures { result ≡ (is_closing request.now || last) }
+fn closes_after(site: &Site, request: &RequestRef<'_, '_>, last: bool) -> bool
+    ensures { result ≡ (is_closing site.now.options request.now || last) }
 {
-    closes_connection(request) || last
+    closes_connection(site.options(), request) || last
 }
 
 /// The answer to a request: the first case that holds of it says the status, in the
 /// order of the definition.
 fn answer_request<'s>(
     site: &'s Site,
-    request: &RequestView<'_>,
+    request: &RequestRef<'_, '_>,
     last: bool,
     room: &mut PathRoom,
     parts: &mut Parts<'s>,
 ) -> Answered
     ensures { Sends (sent_as result parts.new) (request_answer site.now request.now last) }
 {
-    let closes = closes_after(request, last);
+    let closes = closes_after(site, request, last);
     let is_head = leaves_content_out(request);
     if is_refused(site, request) {
         return refuse(site, Status::BadRequest, true, is_head, parts);
@@ -357,7 +357,7 @@ pub fn answer_into<'s>(
     ensures { Sends (sent_as result parts.new) (answer_of site.now (asked_value asked.now) last) }
 {
     match asked {
-        Asked::Request(request) => answer_request(site, request, last, room, parts),
+        Asked::Request(request) => answer_request(site, &request.by_ref(), last, room, parts),
         Asked::NotARequest => refuse(site, Status::BadRequest, true, false, parts),
         Asked::TooLong => refuse(site, Status::HeaderFieldsTooLarge, true, false, parts),
     }
@@ -378,7 +378,7 @@ pub fn answer<'s>(site: &'s Site, asked: &Asked<'_>, last: bool, room: &mut Path
 
 /// Puts the answer to a whole head into the parts, as [`answer_into`] does with what
 /// [`ask`](crate::ask) says of it, and gives the target that was asked for beside it. A request is
-/// read where it lies, as its fields take 2 KiB that no answer needs to move.
+/// read where it lies, as the places of its fields take 2 KiB, which no answer needs to move.
 pub fn answer_head<'s, 'b>(
     site: &'s Site,
     head: &'b [u8],
@@ -390,7 +390,8 @@ pub fn answer_head<'s, 'b>(
         (answer_of site.now (asked_by head.now) last) }
     ensures target { result.1.now ≡ target_of (asked_by head.now) }
 {
-    match &view(head) {
+    let mut fields = FieldRoom::new();
+    match &view_in(head, &mut fields) {
         Ok(request) => {
             let answered = answer_request(site, request, last, room, parts);
             (answered, request.target())

@@ -1,10 +1,11 @@
 //! Whether a request lets its connection be used again.
 ghost use Rattle.std.specs.Prelude.{◌≡◌, ◌==◌};
 ghost use Rattle.std.specs.List.{list_all};
-ghost use Rattle.sws_answer.specs.Closing.{is_zero, is_closing, is_close_field, is_length_field, asks_to_close, has_content_length};
+ghost use Rattle.sws_answer.specs.Closing.{is_zero, is_closing, is_option_field, is_length_field, is_last_by_version, has_option, has_content_length};
 
 use crate::fields::{has, is_same_word, lists};
-use sws_request::RequestView;
+use sws_request::RequestRef;
+use sws_site::SiteOptions;
 
 /// Whether each byte is a digit 0.
 fn has_only_zeros(value: &[u8]) -> bool
@@ -20,11 +21,11 @@ fn is_zero_length(value: &[u8]) -> bool
     !value.is_empty() && has_only_zeros(value)
 }
 
-/// Whether the client asks for the end of the connection by this field.
-fn says_close(name: &[u8], value: &[u8]) -> bool
-    ensures { result ≡ is_close_field (name.now, value.now) }
+/// Whether the field is a Connection with this option.
+fn has_in_field(name: &[u8], value: &[u8], option: &[u8]) -> bool
+    ensures { result ≡ is_option_field option.now (name.now, value.now) }
 {
-    is_same_word(name, b"connection") && lists(value, b"close")
+    is_same_word(name, b"connection") && lists(value, option)
 }
 
 /// Whether the field gives a length other than 0.
@@ -34,21 +35,28 @@ fn says_length(name: &[u8], value: &[u8]) -> bool
     is_same_word(name, b"content-length") && !is_zero_length(value)
 }
 
-/// Whether the client asks for the end of the connection.
-fn wants_close(request: &RequestView<'_>) -> bool
-    ensures { result ≡ asks_to_close request.now.fields }
+/// Whether some Connection field has this option.
+fn has_option(request: &RequestRef<'_, '_>, option: &[u8]) -> bool
+    ensures { result ≡ has_option option.now request.now.fields }
 {
     for i in 0..request.fields() {
         let (name, value) = request.field(i);
-        if says_close(name, value) {
+        if has_in_field(name, value, option) {
             return true;
         }
     }
     false
 }
 
+/// Whether the request is the last one of its connection by its version.
+fn is_last_by_version(options: &SiteOptions, request: &RequestRef<'_, '_>) -> bool
+    ensures { result ≡ is_last_by_version options.now request.now }
+{
+    request.minor() == 0 && !(options.keeps_alive && has_option(request, b"keep-alive"))
+}
+
 /// Whether a length other than 0 is given.
-fn has_length(request: &RequestView<'_>) -> bool
+fn has_length(request: &RequestRef<'_, '_>) -> bool
     ensures { result ≡ has_content_length request.now.fields }
 {
     for i in 0..request.fields() {
@@ -60,12 +68,12 @@ fn has_length(request: &RequestView<'_>) -> bool
     false
 }
 
-/// Whether the connection ends after the response, whatever it is.
-pub fn closes_connection(request: &RequestView<'_>) -> bool
-    ensures { result ≡ is_closing request.now }
+/// Whether the connection ends after the response of a site with these options, whatever that is.
+pub fn closes_connection(options: &SiteOptions, request: &RequestRef<'_, '_>) -> bool
+    ensures { result ≡ is_closing options.now request.now }
 {
-    request.minor() == 0
-        || wants_close(request)
+    is_last_by_version(options, request)
+        || has_option(request, b"close")
         || has(request, b"transfer-encoding")
         || has_length(request)
 }

@@ -5,7 +5,7 @@ ghost use Rattle.sws_answer.specs.Conditions.{NamesDateFrom, is_not_before, is_u
 
 use crate::fields::{has, is_same_word};
 use httpdate::HttpDate;
-use sws_request::RequestView;
+use sws_request::RequestRef;
 
 /// Whether the value is a date that is not before the given one.
 fn is_not_earlier(value: &[u8], date: &HttpDate) -> bool
@@ -19,7 +19,7 @@ fn is_not_earlier(value: &[u8], date: &HttpDate) -> bool
 }
 
 /// The value of the field of this name, if there is exactly one.
-pub fn sole_value<'b>(request: &RequestView<'b>, name: &[u8]) -> Option<&'b [u8]>
+pub fn sole_value<'b>(request: &RequestRef<'b, '_>, name: &[u8]) -> Option<&'b [u8]>
     ensures { option_copied result ≡ one_of (values_of name.now request.now.fields) }
 {
     let mut found = None;
@@ -36,7 +36,7 @@ pub fn sole_value<'b>(request: &RequestView<'b>, name: &[u8]) -> Option<&'b [u8]
 }
 
 /// Whether a site of this date was not modified since the request's date.
-pub fn is_not_modified(date: &Option<HttpDate>, request: &RequestView<'_>) -> bool
+pub fn is_not_modified(date: &Option<HttpDate>, request: &RequestRef<'_, '_>) -> bool
     ensures { result ≡ is_unmodified date.now request.now.fields }
 {
     let Some(date) = date else {

@@ -4,7 +4,7 @@ ghost use Rattle.std.specs.Str.{str_eq_ignore_ascii_case};
 ghost use Rattle.std.specs.List.{list_any};
 ghost use Rattle.sws_answer.specs.Fields.{values_of, has_field, is_blank, without_front, trim_blanks, is_member, has_member};
 
-use sws_request::RequestView;
+use sws_request::RequestRef;
 
 /// Whether two words are the same without regard to ASCII case.
 pub fn is_same_word(word: &[u8], other: &[u8]) -> bool
@@ -14,7 +14,7 @@ pub fn is_same_word(word: &[u8], other: &[u8]) -> bool
 }
 
 /// How many fields of this name there are.
-pub fn count_of(request: &RequestView<'_>, name: &[u8]) -> usize
+pub fn count_of(request: &RequestRef<'_, '_>, name: &[u8]) -> usize
     ensures { result ≡ length (values_of name.now request.now.fields) }
 {
     let mut count = 0;
@@ -28,7 +28,7 @@ pub fn count_of(request: &RequestView<'_>, name: &[u8]) -> usize
 }
 
 /// Whether there is a field of this name.
-pub fn has(request: &RequestView<'_>, name: &[u8]) -> bool
+pub fn has(request: &RequestRef<'_, '_>, name: &[u8]) -> bool
     ensures { result ≡ has_field name.now request.now.fields }
 {
     for i in 0..request.fields() {

@@ -4,7 +4,7 @@ ghost use Rattle.std.specs.List.{list_any, list_all};
 ghost use Rattle.sws_answer.specs.Framing.{is_ambiguous, is_bad_field, is_bad_host_field, is_bad_length_field, is_digit, is_host_byte, is_length_doubtful, is_number};
 
 use crate::fields::{count_of, has, is_same_word};
-use sws_request::RequestView;
+use sws_request::RequestRef;
 
 /// Whether a host, or the port behind it, may have the byte (RFC 3986, section 3.2.2).
 fn is_host_byte(byte: u8) -> bool
@@ -66,7 +66,7 @@ fn is_bad(name: &[u8], value: &[u8]) -> bool
 }
 
 /// Whether the request has a field that no client may send so.
-fn has_bad_field(request: &RequestView<'_>) -> bool
+fn has_bad_field(request: &RequestRef<'_, '_>) -> bool
     ensures { result ≡ list_any is_bad_field request.now.fields }
 {
     for i in 0..request.fields() {
@@ -79,7 +79,7 @@ fn has_bad_field(request: &RequestView<'_>) -> bool
 }
 
 /// Whether the length of the content is given twice, or beside a coding that says where it ends.
-fn has_doubtful_length(request: &RequestView<'_>) -> bool
+fn has_doubtful_length(request: &RequestRef<'_, '_>) -> bool
     ensures { result ≡ is_length_doubtful request.now.fields }
 {
     match count_of(request, b"content-length") {
@@ -90,7 +90,7 @@ fn has_doubtful_length(request: &RequestView<'_>) -> bool
 }
 
 /// Whether the request may be read in two ways.
-pub fn is_read_in_two_ways(request: &RequestView<'_>) -> bool
+pub fn is_read_in_two_ways(request: &RequestRef<'_, '_>) -> bool
     ensures { result ≡ is_ambiguous request.now.fields }
 {
     has_bad_field(request) || has_doubtful_length(request)

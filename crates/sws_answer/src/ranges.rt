@@ -4,11 +4,13 @@ ghost use Rattle.std.specs.List.{position_or_len};
 ghost use Rattle.std.specs.Str.{all_ascii_digits};
 ghost use Rattle.std.specs.Str.Parse.{digits_value};
 ghost use Rattle.sws_answer.specs.declared.ranges.RangeSpec.TheVariants.{Suffix};
-ghost use Rattle.sws_answer.specs.Ranges.{number_in, range_between, spec_of, is_dash, spec_in, spec_in_value, asked_range, part_from, selection_of, selection_in, IsWithin};
+ghost use Rattle.sws_answer.specs.Ranges.{number_in, range_between, spec_of, is_dash, spec_in, spec_in_value, is_text_of, is_date_named, is_range_kept, may_ask_range, asked_range, part_from, selection_of, selection_in, IsWithin};
 
 use crate::conditions::sole_value;
 use crate::fields::{has, is_same_word, trim};
-use sws_request::RequestView;
+use httpdate::HttpDate;
+use sws_request::RequestRef;
+use sws_site::Site;
 
 /// The most digits of a number in a range. So it fits 64 bits.
 const MAX_DIGITS: usize = 18;
@@ -131,11 +133,48 @@ fn read_value(value: &[u8]) -> Option<RangeSpec>
     read_spec(&text[6..])
 }
 
-/// The range that the request asks for, if it asks for one.
-fn read_request(request: &RequestView<'_>) -> Option<RangeSpec>
-    ensures { result ≡ asked_range request.now }
+/// Whether the value is the date, as responses have it.
+fn is_text_of(date: &Option<HttpDate>, value: &[u8]) -> bool
+    ensures { result ≡ is_text_of date.now value.now }
 {
-    if request.method() != b"GET".as_slice() || has(request, b"if-range") {
+    match date {
+        Some(date) => value == date.to_bytes().as_slice(),
+        None => false,
+    }
+}
+
+/// Whether the one condition on a range names the date of the site, which reads such conditions.
+fn is_date_named(site: &Site, request: &RequestRef<'_, '_>) -> bool
+    ensures { result ≡ is_date_named site.now request.now.fields }
+{
+    if !site.options().reads_if_range {
+        return false;
+    }
+    match sole_value(request, b"if-range") {
+        Some(value) => is_text_of(site.http_date(), value),
+        None => false,
+    }
+}
+
+/// Whether no condition on a range is given, or the one that is given holds.
+fn is_range_kept(site: &Site, request: &RequestRef<'_, '_>) -> bool
+    ensures { result ≡ is_range_kept site.now request.now.fields }
+{
+    !has(request, b"if-range") || is_date_named(site, request)
+}
+
+/// Whether the request may ask the site for a range.
+fn may_ask_range(site: &Site, request: &RequestRef<'_, '_>) -> bool
+    ensures { result ≡ may_ask_range site.now request.now }
+{
+    request.method() == b"GET".as_slice() && is_range_kept(site, request)
+}
+
+/// The range that the request asks the site for, if it asks for one.
+fn read_request(site: &Site, request: &RequestRef<'_, '_>) -> Option<RangeSpec>
+    ensures { result ≡ asked_range site.now request.now }
+{
+    if !may_ask_range(site, request) {
         return None;
     }
     match sole_value(request, b"range") {
@@ -178,12 +217,12 @@ fn select(len: usize, spec: RangeSpec) -> Selection
     }
 }
 
-/// What the request selects of a file of so many bytes.
-pub fn select_part(request: &RequestView<'_>, len: usize) -> Selection
-    ensures selected { result ≡ selection_in request.now len }
+/// What the request selects of a file of the site of so many bytes.
+pub fn select_part(site: &Site, request: &RequestRef<'_, '_>, len: usize) -> Selection
+    ensures selected { result ≡ selection_in site.now request.now len }
     ensures within { IsWithin len result }
 {
-    match read_request(request) {
+    match read_request(site, request) {
         Some(spec) => select(len, spec),
         None => Selection::Whole,
     }

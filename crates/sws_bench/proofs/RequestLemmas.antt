@@ -219,7 +219,7 @@ both_false false false none other = refl
 
 open_after : (site : SiteState) (digits : List ℕ) → (answer_of site (request (asked_for digits)) false).closes ≡ false
 unfolding request_answer response
-open_after site digits = both_false (row_of (request_status site (asked_for digits))).closes (is_closing (asked_for digits)) (stays site digits) refl
+open_after site digits = both_false (row_of (request_status site (asked_for digits))).closes (is_closing site.options (asked_for digits)) (stays site digits) refl
 
 -- ---- by the draw
 

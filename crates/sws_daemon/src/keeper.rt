@@ -14,7 +14,7 @@ use std::time::{Duration, Instant};
 use sws_engine::Verdict;
 use sws_lane::{Keeper, Told};
 use sws_link::Opened;
-use sws_net::{Entrance, LaneWorld};
+use sws_net::{Entrance, Guests, LaneWorld};
 use sws_shelf::Shelf;
 use sws_site::Site;
 
@@ -57,11 +57,14 @@ pub struct Common {
     /// The status of the program, once no lane was able to serve at all, or its log can't be
     /// written and it stops for that.
     fault: AtomicU64,
+
+    /// Who counts the connections of each address, where one may have so many alone.
+    guests: Option<Arc<Guests>>,
 }
 
 impl Common {
     /// Of so many lanes, of which so many may be behind the door, before the first generation.
-    pub fn new(lanes: u16, accepting: u16) -> Common {
+    pub fn new(lanes: u16, accepting: u16, guests: Option<Arc<Guests>>) -> Common {
         Common {
             count: AtomicU64::new(0),
             waiting: AtomicU64::new(0),
@@ -70,6 +73,20 @@ impl Common {
             failing: AtomicU64::new(0),
             has_served: AtomicBool::new(false),
             fault: AtomicU64::new(NO_FAULT),
+            guests,
+        }
+    }
+
+    /// Who counts the connections of each address, where one may have so many alone.
+    pub fn guests(&self) -> Option<&Arc<Guests>> {
+        self.guests.as_ref()
+    }
+
+    /// How many connections were closed as they came, where they are counted by their addresses.
+    pub fn refused(&self) -> Option<u64> {
+        match &self.guests {
+            Some(guests) => Some(guests.refused()),
+            None => None,
         }
     }
 
@@ -178,7 +195,8 @@ impl<'d, T: Wait + Clock> LaneKeeper<'d, T> {
             if !self.rest() {
                 return None;
             }
-            match LaneWorld::new(self.rt, self.entrance, self.lane) {
+            let guests = self.common.guests();
+            match LaneWorld::of_requests(self.rt, self.entrance, self.lane, guests) {
                 Ok(world) => return Some(world),
                 Err(_) => self.fail(Cause::Opening),
             }

@@ -1,5 +1,6 @@
 //! The program, from its words to its status.
 use crate::serving::{Served, serve_folder};
+use std::alloc::{AllocError, Global};
 use std::env;
 use std::io::ErrorKind;
 use std::process::ExitCode;
@@ -94,6 +95,7 @@ fn refuse(rt: &HostRuntime, fault: &WordsFault) -> u8 {
         }
         WordsFault::Listen(_)
         | WordsFault::ManyAddresses(_)
+        | WordsFault::Front(_)
         | WordsFault::HeaderParts(_)
         | WordsFault::Header(_, _)
         | WordsFault::TypeParts(_)
@@ -108,11 +110,20 @@ fn refuse(rt: &HostRuntime, fault: &WordsFault) -> u8 {
     }
 }
 
-/// Leaves the totals for standard output, and answers the status.
-fn end<T: Wait>(threads: &T, served: &Served, outbox: &Outbox) -> u8 {
+/// How many connections were refused, where they are counted.
+fn refused_text(alloc: Global, refused: Option<u64>) -> Result<String, AllocError> {
+    match refused {
+        Some(count) => format!(in alloc; " refused {count}"),
+        None => Ok(String::new(alloc)),
+    }
+}
+
+/// The totals as text.
+fn totals_text(alloc: Global, served: &Served) -> Result<String, AllocError> {
     let totals = &served.totals;
-    let text = format!(in outbox.alloc();
-        "generations {} connections {} done {} idle {} fault {}\nread {} written {}\n",
+    let refused = refused_text(alloc, served.refused)?;
+    format!(in alloc;
+        "generations {} connections {} done {} idle {} fault {}{refused}\nread {} written {}\n",
         totals.generations,
         totals.connections,
         totals.done,
@@ -120,8 +131,12 @@ fn end<T: Wait>(threads: &T, served: &Served, outbox: &Outbox) -> u8 {
         totals.fault,
         totals.read,
         totals.written
-    );
-    match text {
+    )
+}
+
+/// Leaves the totals for standard output, and answers the status.
+fn end<T: Wait>(threads: &T, served: &Served, outbox: &Outbox) -> u8 {
+    match totals_text(outbox.alloc(), served) {
         Ok(text) => {
             outbox.print(threads, text.as_bytes(), 2);
         }

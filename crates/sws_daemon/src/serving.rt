@@ -12,12 +12,12 @@ use mely_history::Shape;
 use std::alloc::AllocError;
 use std::net::{SocketAddr, TcpListener};
 use std::rt::Clock;
-use std::sync::Wait;
+use std::sync::{Arc, Wait};
 use std::thread::{self, Threads};
 use std::{fmt, io};
 use sws_files::ReloadFile;
 use sws_lane::{Lane, Terms, Totals, keep_serving};
-use sws_net::{Door, Entrance, LaneWorld, StopFile, listen};
+use sws_net::{Door, Entrance, Guests, LaneWorld, StopFile, listen};
 use sws_outbox::Outbox;
 use sws_shelf::{LoadFault, Notes, Origin, Shelf};
 use swsd_words::{LogFault, LogFormat, Order};
@@ -83,6 +83,10 @@ impl ServeFault {
 #[derive(Clone, Copy, Debug, PartialEq, Eq)]
 pub struct Served {
     pub totals: Totals,
+
+    /// How many connections were closed as they came, since their address had as many as it may,
+    /// where that is counted.
+    pub refused: Option<u64>,
 
     /// The status of the fault by which the program ends, where it does by one: no lane was able to
     /// serve at all, or the log can't be written.
@@ -195,6 +199,18 @@ struct House {
     curfew: Curfew,
 }
 
+/// Who counts the connections of each address, where the order says how many one may have.
+fn guests_of(rt: &HostRuntime, order: &Order) -> Result<Option<Arc<Guests>>, AllocError> {
+    let alloc = rt.alloc();
+    match order.per_address {
+        None => Ok(None),
+        Some(most) => {
+            let guests = Guests::new(alloc, most, &order.fronts)?;
+            Ok(Some(Arc::new(alloc, guests)?))
+        }
+    }
+}
+
 impl House {
     /// The folder of the order is loaded, and its door is open.
     ///
@@ -206,6 +222,7 @@ impl House {
         order: Order,
         voice: &Voice<'_, T>,
     ) -> Result<House, ServeFault> {
+        let guests = guests_of(rt, &order)?;
         // Whoever asks from now on sees what the folder has then.
         let reload = order.reload_file.map(|path| ReloadFile::new(rt, path));
         let mut notes = Notes::new(rt.alloc());
@@ -230,7 +247,7 @@ impl House {
             reload,
             look: order.look,
             stops_unlogged: order.log_fault == LogFault::Stop,
-            common: Common::new(order.lanes, order.accepting),
+            common: Common::new(order.lanes, order.accepting, guests),
             curfew: Curfew::new(),
         })
     }
@@ -279,7 +296,8 @@ fn jobs_of<'d, T: Wait + Clock>(
             voice.again(),
             &house.common,
         )?;
-        let lane = Lane::new(LaneWorld::new(rt, entrance, number)?, keeper);
+        let world = LaneWorld::of_requests(rt, entrance, number, house.common.guests())?;
+        let lane = Lane::new(world, keeper);
         if jobs.push(Job { lane, terms, desk }).is_err() {
             return Err(ServeFault::Memory);
         }
@@ -365,6 +383,7 @@ pub fn serve_at<'x, T: AllocGlobal + Threads + Wait + Sync + Clock>(
     run_house(rt, threads, &house, &voice, jobs.as_mut_slice());
     Ok(Served {
         totals: sum_up(&jobs),
+        refused: house.common.refused(),
         fault: house.common.fault(),
     })
 }

@@ -2,7 +2,6 @@
 ghost use Rattle.std.specs.Prelude.{◌≡◌, None, is_some};
 ghost use Rattle.sws_link.specs.Counts.{kept_count};
 
-use crate::errors::is_want_of_memory;
 use crate::file_walk::FileWalk;
 use crate::unread::{Cause, Unread};
 use std::alloc::{AllocError, Global};
@@ -190,9 +189,9 @@ impl<'r> Folder for FileFolder<'r> {
                 self.file = None;
                 Opened::Ready
             }
-            Err(error) if is_want_of_memory(&error) => Opened::Memory,
-            Err(error) => {
-                self.unread = unread_at(self.rt.alloc(), "", Cause::Machine(error));
+            Err(cause) if cause.is_want_of_memory() => Opened::Memory,
+            Err(cause) => {
+                self.unread = unread_at(self.rt.alloc(), "", cause);
                 self.faults = self.faults.saturating_add(1);
                 Opened::Failed
             }

@@ -73,14 +73,16 @@ struct Level {
 }
 
 impl Level {
-    fn new(rt: &HostRuntime, folder: File, name: String) -> io::Result<Level> {
+    fn new(rt: &HostRuntime, folder: File, name: String) -> Result<Level, Cause> {
         let path = format!(in rt.alloc(); "/proc/self/fd/{}", folder.as_raw_fd())?;
-        let listing = fs::read_dir(rt, path.as_str())?;
-        Ok(Level {
-            _folder: folder,
-            listing,
-            name,
-        })
+        match fs::read_dir(rt, path.as_str()) {
+            Ok(listing) => Ok(Level {
+                _folder: folder,
+                listing,
+                name,
+            }),
+            Err(error) => Err(Cause::Listing(path, error)),
+        }
     }
 
     /// The name of an entry: its path from the folder of the walk on.
@@ -89,6 +91,12 @@ impl Level {
         name.push_str(entry.file_name())?;
         Ok(name)
     }
+}
+
+/// Goes one folder deeper.
+fn add_level(levels: &mut Vec<Level>, level: Level) -> io::Result<()> {
+    levels.push(level)?;
+    Ok(())
 }
 
 /// Why an entry isn't listed.
@@ -119,10 +127,13 @@ pub struct FileWalk<'r> {
 impl<'r> FileWalk<'r> {
     /// A walk that begins in the folder of this path. Hidden entries ([`is_hidden`]), and what is
     /// below them, are given only where these are asked for.
-    pub fn new(rt: &'r HostRuntime, path: &str, hidden: bool) -> io::Result<FileWalk<'r>> {
+    pub fn new(rt: &'r HostRuntime, path: &str, hidden: bool) -> Result<FileWalk<'r>, Cause> {
         let folder = open_folder(rt, path)?;
         let mut levels = Vec::new(rt.alloc());
-        levels.push(Level::new(rt, folder, String::new(rt.alloc()))?)?;
+        add_level(
+            &mut levels,
+            Level::new(rt, folder, String::new(rt.alloc()))?,
+        )?;
         Ok(FileWalk {
             rt,
             levels,
@@ -190,9 +201,9 @@ impl<'r> FileWalk<'r> {
     }
 
     /// Goes on in the folder that is looked at.
-    fn go_into(&mut self, folder: File) -> io::Result<()> {
+    fn go_into(&mut self, folder: File) -> Result<(), Cause> {
         let name = String::from_str(self.rt.alloc(), self.name.as_str())?;
-        self.levels.push(Level::new(self.rt, folder, name)?)?;
+        add_level(&mut self.levels, Level::new(self.rt, folder, name)?)?;
         Ok(())
     }
 

@@ -11,6 +11,10 @@ pub enum Cause {
     /// The machine refuses it, as where the program has no right to it.
     Machine(io::Error),
 
+    /// It is a folder that the machine doesn't list by the path of its descriptor, which is this one:
+    /// as where there is no `/proc`.
+    Listing(String, io::Error),
+
     /// A name in this folder isn't UTF-8.
     Name,
 
@@ -46,7 +50,7 @@ impl Cause {
     /// Whether an allocation of this program was refused.
     pub fn is_want_of_memory(&self) -> bool {
         match self {
-            Cause::Machine(error) => is_want_of_memory(error),
+            Cause::Machine(error) | Cause::Listing(_, error) => is_want_of_memory(error),
             Cause::Name | Cause::Depth | Cause::Replaced => false,
         }
     }
@@ -55,7 +59,9 @@ impl Cause {
     /// machine has no descriptor for now, may be read then.
     pub fn is_lasting(&self) -> bool {
         match self {
-            Cause::Machine(error) => error.kind() == ErrorKind::PermissionDenied,
+            Cause::Machine(error) | Cause::Listing(_, error) => {
+                error.kind() == ErrorKind::PermissionDenied
+            }
             Cause::Name | Cause::Depth => true,
             Cause::Replaced => false,
         }
@@ -66,6 +72,7 @@ impl fmt::Display for Cause {
     fn fmt<W: fmt::Write>(&self, f: &mut fmt::Formatter<W>) -> fmt::Result {
         match self {
             Cause::Machine(error) => write!(f, "{error}"),
+            Cause::Listing(path, error) => write!(f, "{path}, by which it is listed: {error}"),
             Cause::Name => write!(f, "a name in it isn't UTF-8"),
             Cause::Depth => write!(f, "it lies more than 32 folders deep"),
             Cause::Replaced => write!(f, "another file has taken its place"),

@@ -6,6 +6,7 @@ ghost use Rattle.sws_net.specs.Initial.{IsInitialIfCame};
 use crate::counted::{Counted, Origin};
 use crate::door::Door;
 use crate::errors::has_no_room;
+use crate::guests::Guests;
 use crate::listener::end_listening;
 use crate::server::{Came, Server, time_of};
 use crate::stop_file::StopFile;
@@ -14,6 +15,7 @@ use mio::net;
 use std::alloc::AllocError;
 use std::io;
 use std::net::TcpListener;
+use std::sync::Arc;
 use sws_link::{Accepted, Opened, Polled, World};
 
 /// In how many milliseconds it is looked again at the latest whether the world is to leave, and
@@ -30,6 +32,10 @@ const UNMANNED: u64 = 1000;
 
 /// For how many milliseconds such a connection hasn't got on.
 const STANDSTILL: u64 = 5000;
+
+/// For how many milliseconds a connection that has brought nothing yet is left alone by a world that
+/// takes no further one.
+const UNUSED: u64 = 5000;
 
 /// What lanes share, and for how long one takes connections.
 #[derive(Clone, Copy, Drop)]
@@ -58,6 +64,13 @@ pub struct Entrance<'d> {
 /// renewed, or the stop file is there. From then on it gives no further link: others take those
 /// connections. Where it was opened for more, it waits until those that it gave are gone, and then
 /// says that it failed, so that a run over it ends.
+///
+/// A world of requests ([`LaneWorld::of_requests`]) ends what waits between two of them once it has
+/// left: a connection that has moved nothing for a quarter of a second comes to its end as if its
+/// client had ended it, and one that has brought nothing yet after five seconds. Half the grace later
+/// those end too that wait so for a moment alone, as of a client that asks again and again. Such a
+/// world may also count the connections of each address, and closes those as they come that are too
+/// many.
 ///
 /// After the grace it cuts those that are still there, but for those in which 240 bytes a second
 /// have moved over the last time of the grace's length. These may go on as long as the door lets
@@ -94,6 +107,12 @@ struct Stay<'d> {
 
     /// How many of the listeners were ended.
     ended: usize,
+
+    /// Whether connections bring requests, so that they may end between two of them.
+    has_requests: bool,
+
+    /// Who counts the connections of each address, where somebody does.
+    guests: Option<&'d Arc<Guests>>,
 }
 
 /// What is behind the door of a lane.
@@ -207,6 +226,9 @@ impl<'d> Stay<'d> {
         let grace = self.entrance.grace;
         let step = (grace / 1000).saturating_mul(LEAST_PACE).max(1);
         server.watch(step);
+        if self.has_requests {
+            server.retire(now.saturating_sub(left) >= grace / 2, UNUSED);
+        }
         let is_unmanned = self.is_unmanned(now);
         if now.saturating_sub(left) < grace {
             if is_unmanned {
@@ -256,7 +278,7 @@ impl<'d> Stay<'d> {
             }
             return Came::NotYet;
         }
-        match server.next(number) {
+        match server.next(number, self.guests) {
             Came::Link(link) => {
                 if number.saturating_add(1) >= total {
                     self.leave(server);
@@ -277,6 +299,28 @@ impl<'d> LaneWorld<'d> {
         entrance: Entrance<'d>,
         lane: usize,
     ) -> Result<LaneWorld<'d>, AllocError> {
+        LaneWorld::behind(rt, entrance, lane, false, None)
+    }
+
+    /// The same, of connections that bring requests, each of which ends with an empty line and is
+    /// answered. Where the connections of an address are counted, this says of how many.
+    pub fn of_requests(
+        rt: &'d HostRuntime,
+        entrance: Entrance<'d>,
+        lane: usize,
+        guests: Option<&'d Arc<Guests>>,
+    ) -> Result<LaneWorld<'d>, AllocError> {
+        LaneWorld::behind(rt, entrance, lane, true, guests)
+    }
+
+    /// A world of this lane.
+    fn behind(
+        rt: &'d HostRuntime,
+        entrance: Entrance<'d>,
+        lane: usize,
+        has_requests: bool,
+        guests: Option<&'d Arc<Guests>>,
+    ) -> Result<LaneWorld<'d>, AllocError> {
         let behind = Behind {
             stay: Stay {
                 rt,
@@ -287,6 +331,8 @@ impl<'d> LaneWorld<'d> {
                 watched: 0,
                 unmanned: None,
                 ended: 0,
+                has_requests,
+                guests,
             },
             server: None,
         };

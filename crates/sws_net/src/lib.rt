@@ -10,6 +10,9 @@
 //! | [`LaneWorld`] | a world | the same, over sockets that worlds share behind a [`Door`] |
 //! | [`TcpLink`] | a link | a socket, by a [`KeptLink`] |
 //!
+//! What is shared beside the sockets: [`Guests`] counts the connections of each address, and a
+//! [`StopFile`] tells all to stop.
+//!
 //! What a link keeps back of a response is proved over any [`Socket`] that tells what it carries,
 //! as [`MemSocket`] does: [`KeptLink`] meets the clauses of every link on contents too.
 //!
@@ -30,6 +33,7 @@ mod counted;
 mod departures;
 mod door;
 mod errors;
+mod guests;
 mod kept;
 mod kept_link;
 mod lane_world;
@@ -49,6 +53,7 @@ mod tcp_socket;
 mod tcp_world;
 
 pub use door::Door;
+pub use guests::Guests;
 pub use kept_link::KeptLink;
 pub use lane_world::{Entrance, LaneWorld};
 pub use listener::{listen, other_address};

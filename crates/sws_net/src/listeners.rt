@@ -5,6 +5,7 @@ use mio::net::{TcpListener, TcpStream};
 use mio::{Interest, Registry, Token};
 use std::alloc::Global;
 use std::io;
+use std::net::SocketAddr;
 
 /// A socket that listens, and whether a connection may be waiting in its queue.
 #[derive(Drop)]
@@ -93,13 +94,13 @@ impl Listeners {
         None
     }
 
-    /// The next connection, where one may be waiting: of the sockets in turn.
-    pub fn accept(&mut self) -> Option<io::Result<TcpStream>> {
+    /// The next connection and who comes by it, where one may be waiting: of the sockets in turn.
+    pub fn accept(&mut self) -> Option<io::Result<(TcpStream, SocketAddr)>> {
         let place = self.turn()?;
         let listening = self.all.get_mut(place)?;
         self.next = place.saturating_add(1);
         match listening.socket.accept() {
-            Ok((stream, _)) => Some(Ok(stream)),
+            Ok(come) => Some(Ok(come)),
             Err(error) => {
                 if error.kind() == io::ErrorKind::WouldBlock {
                     listening.may_accept = false;

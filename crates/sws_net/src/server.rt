@@ -4,6 +4,7 @@ ghost use Rattle.sws_net.specs.Initial.{IsInitialTcpLink, IsInitialIfCame};
 
 use crate::departures::Departures;
 use crate::errors::{has_no_room, is_of_one_connection};
+use crate::guests::{Guest, Guests};
 use crate::listeners::Listeners;
 use crate::lobby::{Lobby, Way};
 use crate::places::{LISTENERS, register};
@@ -15,6 +16,7 @@ use mio::{Events, Poll, Token};
 use std::alloc::Global;
 use std::io::{self, ErrorKind};
 use std::net::{IpAddr, Ipv4Addr, SocketAddr};
+use std::sync::Arc;
 use std::time::{Clock, Duration};
 
 /// How many milliseconds go by at least between two looks for links that have shown nothing, where
@@ -81,7 +83,7 @@ pub struct Server {
     /// When it was last looked which links have shown nothing for long.
     swept: u64,
 
-    /// Whether links were cut.
+    /// Whether links were cut, or told to end.
     has_cut: bool,
 }
 
@@ -161,6 +163,14 @@ impl Server {
         self.progress.look(&self.lobby, self.now, step);
     }
 
+    /// Tells links to end that wait between two requests ([`Progress::retire`]): nothing more is
+    /// read of them than has come.
+    pub fn retire(&mut self, is_late: bool, longest: u64) {
+        self.has_cut = true;
+        self.progress
+            .retire(&self.lobby, self.now, is_late, longest);
+    }
+
     /// Cuts the links that weren't seen to get on for so many milliseconds, all of them for none:
     /// their calls fail from now on. Answers how many others are there.
     pub fn cut(&mut self, longest: u64) -> u32 {
@@ -178,7 +188,7 @@ impl Server {
         self.now
     }
 
-    /// Which of those that wait may be ready, as one that was cut is. Where none
+    /// Which of those that wait may be ready, as one is that is to end now. Where none
     /// showed it, the machine is asked: where each link that is there waits, and no connection may
     /// be waiting to be accepted, for one to be due, at most for `most` milliseconds; and else
     /// without waiting, at each eighth look.
@@ -192,7 +202,7 @@ impl Server {
     ) -> io::Result<Option<u16>>
         ensures { IfOk result (λ named. IfSome named (λ conn. Contains waiting.now conn)) }
     {
-        if let Some(conn) = self.first_cut(waiting) {
+        if let Some(conn) = self.first_to_end(waiting) {
             return Ok(Some(conn));
         }
         if let Some(conn) = self.signs.take_ready(&self.lobby, waiting, self.now) {
@@ -211,15 +221,15 @@ impl Server {
         Ok(self.signs.take_ready(&self.lobby, waiting, self.now))
     }
 
-    /// The first of those that wait which was cut.
-    fn first_cut(&self, waiting: &[u16]) -> Option<u16>
+    /// The first of those that wait which is to end now.
+    fn first_to_end(&self, waiting: &[u16]) -> Option<u16>
         ensures { IfSome result (λ conn. Contains waiting.now conn) }
     {
         if !self.has_cut {
             return None;
         }
         for conn in waiting {
-            if self.lobby.is_cut(*conn as usize) {
+            if self.lobby.is_to_end(*conn as usize) {
                 return Some(*conn);
             }
         }
@@ -324,15 +334,18 @@ impl Server {
     }
 
     /// The next connection, as the link of this number. One that can't be set up is
-    /// closed and isn't counted.
-    pub fn next(&mut self, number: u16) -> Came
+    /// closed and isn't counted, and so is one that isn't let in.
+    pub fn next(&mut self, number: u16, guests: Option<&Arc<Guests>>) -> Came
         ensures { IsInitialIfCame result }
     {
         match self.listeners.accept() {
             None => Came::NotYet,
-            Some(Ok(stream)) => match self.admit(stream, number) {
-                Ok(link) => Came::Link(link),
-                Err(_) => Came::NotYet,
+            Some(Ok((stream, from))) => match guests {
+                None => self.admit(stream, number, None),
+                Some(guests) => match Guest::of(guests, from.ip()) {
+                    Some(guest) => self.admit(stream, number, Some(guest)),
+                    None => Came::NotYet,
+                },
             },
             Some(Err(error)) => self.none_came(&error),
         }
@@ -357,12 +370,27 @@ impl Server {
         Came::Failed
     }
 
+    /// A connection that was let in, where it can be set up.
+    fn admit(&mut self, stream: TcpStream, number: u16, guest: Option<Guest>) -> Came
+        ensures { IsInitialIfCame result }
+    {
+        match self.link_of(stream, number, guest) {
+            Ok(link) => Came::Link(link),
+            Err(_) => Came::NotYet,
+        }
+    }
+
     /// A connection that was accepted, as a link of this number.
-    fn admit(&mut self, mut stream: TcpStream, number: u16) -> io::Result<TcpLink>
+    fn link_of(
+        &mut self,
+        mut stream: TcpStream,
+        number: u16,
+        guest: Option<Guest>,
+    ) -> io::Result<TcpLink>
         ensures { IfOk result (λ link. IsInitialTcpLink link) }
     {
         stream.set_nodelay(true)?;
-        let presence = self.lobby.enter(number)?;
+        let presence = self.lobby.enter(number, guest)?;
         register(self.poll.registry(), &mut stream, number as usize)?;
         self.signs.begin(number as usize, self.now);
         TcpLink::new(self.alloc, stream, presence, self.holds)

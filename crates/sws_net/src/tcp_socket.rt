@@ -28,6 +28,11 @@ struct Open {
 /// says that the peer has hung up, and the machine is asked. If it has not, it is still to see
 /// it, and wakes the link.
 ///
+/// **Between two requests the world may end it.** Where all that was to be sent was taken, nothing has
+/// come since, and what came before ended with an empty line, as whole requests do, a socket that the
+/// world has told to end asks the machine once more, and is at its end where nothing has come: so no
+/// answer is lost, and no request that had arrived (RFC 9112, section 9.6).
+///
 /// **The last answer isn't lost, and nobody is held up by it.** The end hands the socket to the
 /// world, which hands over the last bytes, says that no more comes, and takes what the peer still
 /// sends for a while ([`Leaving`](crate::leaving::Leaving)).
@@ -40,6 +45,13 @@ pub struct TcpSocket {
 
     /// Whether all input was taken.
     has_ended: bool,
+
+    /// Whether what was taken last ended with an empty line, or nothing was taken yet.
+    is_whole: bool,
+
+    /// Whether it is between two requests: something was sent behind the last piece, which was whole,
+    /// or nothing was taken yet.
+    is_between: bool,
 }
 
 /// Hands two pieces to the machine, which takes some of them.
@@ -53,6 +65,17 @@ fn send_parts(stream: &TcpStream, first: &[u8], second: &[u8]) -> io::Result<usi
     stream.write_vectored(&parts)
 }
 
+/// Whether these bytes end with an empty line.
+fn ends_with_empty_line(bytes: &[u8]) -> bool {
+    bytes.ends_with(b"\n\r\n") || bytes.ends_with(b"\n\n")
+}
+
+/// Notes that the link waits to read, and whether it does so between two requests.
+fn wait_to_read(presence: &Presence, is_between: bool) {
+    presence.rest(is_between);
+    presence.wait_for(Way::Reading);
+}
+
 impl TcpSocket {
     /// A socket that doesn't block.
     pub fn new(stream: TcpStream, presence: Presence) -> TcpSocket
@@ -62,6 +85,8 @@ impl TcpSocket {
             open: Some(Open { stream, presence }),
             is_drained: false,
             has_ended: false,
+            is_whole: true,
+            is_between: true,
         }
     }
 
@@ -94,9 +119,10 @@ impl Socket for TcpSocket {
         if open.presence.is_cut() {
             return LinkRead::Failed;
         }
-        if self.is_drained && !open.presence.has_hung_up() {
+        let may_end = self.is_between && open.presence.is_retired();
+        if self.is_drained && !may_end && !open.presence.has_hung_up() {
             self.is_drained = false;
-            open.presence.wait_for(Way::Reading);
+            wait_to_read(&open.presence, self.is_between);
             return LinkRead::NotReady;
         }
         match (&mut &open.stream).read(into) {
@@ -106,11 +132,17 @@ impl Socket for TcpSocket {
             }
             Ok(count) => {
                 open.presence.note_moved(count);
+                open.presence.rest(false);
+                self.is_whole = ends_with_empty_line(&into[..count]);
+                self.is_between = false;
                 self.is_drained = count < into.len();
                 LinkRead::Took(count)
             }
             Err(error) if is_not_yet(&error) => {
-                open.presence.wait_for(Way::Reading);
+                if may_end {
+                    return LinkRead::End;
+                }
+                wait_to_read(&open.presence, self.is_between);
                 LinkRead::NotReady
             }
             Err(_) => LinkRead::Failed,
@@ -131,6 +163,7 @@ impl Socket for TcpSocket {
             }
             Ok(count) => {
                 open.presence.note_moved(count);
+                self.is_between = self.is_whole;
                 if count < first.len() + second.len() {
                     // What is left waits for the same.
                     open.presence.wait_for(Way::Writing);

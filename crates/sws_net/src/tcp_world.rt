@@ -64,7 +64,7 @@ impl<'r> Origin for Listening<'r> {
     fn next(&mut self, number: u16, _total: u16) -> Came {
         match &mut self.server {
             None => Came::NotYet,
-            Some(server) => server.next(number),
+            Some(server) => server.next(number, None),
         }
     }
 }

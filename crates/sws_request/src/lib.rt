@@ -24,5 +24,8 @@ mod scans;
 
 pub use cuts::Cut;
 pub use head::{MAX_HEAD, cut, cut_is_stable, scan};
-pub use request::{MAX_FIELDS, NotARequest, RequestView, empty_lines_change_nothing, view};
+pub use request::{
+    FieldRoom, MAX_FIELDS, NotARequest, RequestRef, RequestView, empty_lines_change_nothing, view,
+    view_in,
+};
 pub use scans::Scan;

@@ -23,30 +23,45 @@ impl fmt::Display for NotARequest {
 
 impl Error for NotARequest {}
 
-/// A request, whose parts are slices of its head.
+/// Room for the places of a request's fields. It is worth making where it is used, as it takes 2 KiB.
 #[derive(Drop)]
-pub struct RequestView<'b> {
+pub struct FieldRoom {
+    spans: [HeaderSpan; MAX_FIELDS],
+}
+
+impl FieldRoom {
+    /// A room, for the fields of one request after another.
+    pub fn new() -> FieldRoom {
+        FieldRoom {
+            spans: [EMPTY_HEADER_SPAN; MAX_FIELDS],
+        }
+    }
+}
+
+/// A request, whose parts are slices of its head, and the places of whose fields lie in a room of
+/// the caller's: so it is cheap to move.
+#[derive(Drop)]
+pub struct RequestRef<'b, 's> {
     head: &'b [u8],
     method: Span,
     target: Span,
     minor: u8,
-    fields: usize,
-    spans: [HeaderSpan; MAX_FIELDS],
+    spans: &'s [HeaderSpan],
 }
 
-impl<'b> Model for RequestView<'b> {
+impl<'b, 's> Model for RequestRef<'b, 's> {
     ghost use Rattle.sws_request.specs.Request.{Request};
 
     ghost Value = { Request };
 
-    ghost use Rattle.sws_request.specs.View.{state_of, IsInside};
+    ghost use Rattle.sws_request.specs.View.{lent_state_of, IsLentInside};
 
-    ghost view = { state_of };
+    ghost view = { lent_state_of };
 
-    ghost invariant = { IsInside };
+    ghost invariant = { IsLentInside };
 }
 
-impl<'b> RequestView<'b> {
+impl<'b, 's> RequestRef<'b, 's> {
     /// The method, as `GET`: letters count as they are (RFC 9110, section 9.1).
     pub fn method(&self) -> &'b [u8]
         ensures { result.now ≡ self.now.method }
@@ -74,7 +89,7 @@ impl<'b> RequestView<'b> {
         ensures count { result ≡ length self.now.fields }
         ensures few { result ≤ 64 }
     {
-        self.fields
+        self.spans.len()
     }
 
     /// The name and the value of a field, the first of which has number 0.
@@ -104,6 +119,98 @@ impl<'b> RequestView<'b> {
     }
 }
 
+/// A request, whose parts are slices of its head.
+#[derive(Drop)]
+pub struct RequestView<'b> {
+    head: &'b [u8],
+    method: Span,
+    target: Span,
+    minor: u8,
+    fields: usize,
+    spans: [HeaderSpan; MAX_FIELDS],
+}
+
+impl<'b> Model for RequestView<'b> {
+    ghost use Rattle.sws_request.specs.Request.{Request};
+
+    ghost Value = { Request };
+
+    ghost use Rattle.sws_request.specs.View.{state_of, IsInside};
+
+    ghost view = { state_of };
+
+    ghost invariant = { IsInside };
+}
+
+impl<'b> RequestView<'b> {
+    /// The same request, over the places that this value holds.
+    pub fn by_ref(&self) -> RequestRef<'b, '_>
+        ensures { result ≡ self.now }
+    {
+        RequestRef {
+            head: self.head,
+            method: self.method,
+            target: self.target,
+            minor: self.minor,
+            spans: &self.spans[..self.fields],
+        }
+    }
+
+    /// The method, as `GET`: letters count as they are (RFC 9110, section 9.1).
+    pub fn method(&self) -> &'b [u8]
+        ensures { result.now ≡ self.now.method }
+    {
+        self.by_ref().method()
+    }
+
+    /// The target, as the request line has it (RFC 9112, section 3.2).
+    pub fn target(&self) -> &'b [u8]
+        ensures { result.now ≡ self.now.target }
+    {
+        self.by_ref().target()
+    }
+
+    /// The minor version: 0 for `HTTP/1.0`, 1 for `HTTP/1.1`.
+    pub fn minor(&self) -> u8
+        ensures minor { result ≡ self.now.minor }
+        ensures known { result ≤ 1 }
+    {
+        self.minor
+    }
+
+    /// How many fields there are, [`MAX_FIELDS`] at most.
+    pub fn fields(&self) -> usize
+        ensures count { result ≡ length self.now.fields }
+        ensures few { result ≤ 64 }
+    {
+        self.fields
+    }
+
+    /// The name and the value of a field, the first of which has number 0.
+    pub fn field(&self, i: usize) -> (&'b [u8], &'b [u8])
+        requires { i < length self.now.fields }
+        ensures { slice_get self.now.fields i ≡ Some (result.0.now, result.1.now) }
+    {
+        self.by_ref().field(i)
+    }
+
+    /// The name of a field.
+    pub fn name(&self, i: usize) -> &'b [u8]
+        requires { i < length self.now.fields }
+        ensures { option_map (λ field. field.0) (slice_get self.now.fields i) ≡ Some result.now }
+    {
+        self.by_ref().name(i)
+    }
+
+    /// The value of a field, without the white space around it (RFC 9110, section 5.5).
+    pub fn value(&self, i: usize) -> &'b [u8]
+        requires { i < length self.now.fields }
+        ensures { option_map (λ field. field.1) (slice_get self.now.fields i) ≡ Some result.now }
+    {
+        self.by_ref().value(i)
+    }
+}
+
 /// The request that a whole head says.
 ///
 /// Empty lines in front of it are dropped (RFC 9112, section 2.2). What is left is a request where
@@ -123,6 +230,28 @@ pub fn view(head: &[u8]) -> Result<RequestView<'_>, NotARequest>
             minor: found.version,
             fields: found.headers,
             spans,
+        }),
+        _ => Err(NotARequest),
+    }
+}
+
+/// The request that a whole head says, as [`view`] finds it, with the places of its fields in this
+/// room: what was in it before doesn't matter.
+pub fn view_in<'b, 's>(
+    head: &'b [u8],
+    room: &'s mut FieldRoom,
+) -> Result<RequestRef<'b, 's>, NotARequest>
+    ensures request { IfOk result (λ view. IsRequest head.now view) }
+    ensures refused { OnErr result (IsNoRequest head.now) }
+    ensures short { IfOk result (λ view. length view.target ≤ length head.now) }
+{
+    match parse_request(head, &mut room.spans) {
+        Ok(Status::Complete(found)) if found.len == head.len() => Ok(RequestRef {
+            head,
+            method: found.method,
+            target: found.path,
+            minor: found.version,
+            spans: &room.spans[..found.headers],
         }),
         _ => Err(NotARequest),
     }

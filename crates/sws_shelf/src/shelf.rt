@@ -131,6 +131,8 @@ fn site_options(alloc: Global, origin: &Origin) -> Result<SiteOptions, AllocErro
         sends_not_found_page: true,
         redirects_to_folders: true,
         refuses_ambiguous: true,
+        keeps_alive: true,
+        reads_if_range: true,
         answers: origin.answers,
         input: origin.input,
         max_files: origin.max_files,

@@ -1,5 +1,5 @@
 -- Redirects to folders.
-use Rattle.std.proofs.Common.{◌≡◌, ⊎_elim, ℕ, ◌<◌, ◌≤◌, Bool, true, false, List, [], ◌∷◌, ◌++◌, length, take, drop, refl, ap, ◌∙◌, None, append_assoc, length-append, lit≤, arith, ◌-◌, ◌+◌, ◌*◌}
+use Rattle.std.proofs.Common.{◌≡◌, ⊎_elim, ℕ, ◌<◌, ◌≤◌, Bool, true, false, List, [], ◌∷◌, ◌++◌, length, take, drop, refl, ap, ◌∙◌, Option, None, Some, append_assoc, length-append, lit≤, arith, ◌-◌, ◌+◌, ◌*◌}
 use Rattle.std.proofs.lemmas.List.{length-take}
 use Rattle.std.specs.Prelude.{codes, not, if◌then◌else◌}
 use Rattle.std.specs.List.{flat_map}
@@ -69,19 +69,23 @@ folder_path-short index =
 
 -- ---- the head of a redirect
 
--- without its location
-abbrev pub unplaced : SiteOptions → Bool → ResponseHead
-unplaced options closes = record {
+abbrev moved_head : Option (List ℕ) → Bool → Bool → Option ℕ → List ℕ → ResponseHead
+moved_head location closes says_kept max_age headers = record {
   status = MovedPermanently;
-  location = None;
+  location = location;
   closes = closes;
+  says_kept = says_kept;
   date = None;
-  max_age = options.added.max_age;
+  max_age = max_age;
   range = None;
   media_type = plain_text;
   len = 22;
-  headers = options.added.headers;
+  headers = headers;
 }
+
+-- without its location
+abbrev pub unplaced : SiteOptions → Bool → ResponseHead
+unplaced options closes = moved_head None closes options.keeps_alive options.added.max_age options.added.headers
 
 pub unplaced-long : (options : SiteOptions) (closes : Bool) → 45 ≤ length (head_text (unplaced options closes))
 unplaced-long options closes =
@@ -90,21 +94,29 @@ unplaced-long options closes =
     omega (arith, length-head_text (unplaced options closes), status, server)
 
 -- the lines behind the location
-abbrev later : Bool → List ℕ
-later closes = lines_text (connection_lines closes ++ content_lines StatusText plain_text 22)
+abbrev later : Bool → Bool → List ℕ
+later closes says_kept = lines_text (connection_lines closes says_kept ++ content_lines StatusText plain_text 22)
 
 regroup : (a b c d : List ℕ) → a ++ ((b ++ c) ++ d) ≡ ((a ++ b) ++ c) ++ d
 regroup a b c d = simp append_assoc
 
+-- the line of the location stands behind the first 45 bytes
+placed : (closes says_kept : Bool) (max_age : Option ℕ) (headers path : List ℕ)
+    → (((take 45 (head_text (moved_head None closes says_kept max_age headers)) ++ codes "Location: ") ++ path) ++ line_end) ++ drop 45 (head_text (moved_head None closes says_kept max_age headers))
+    ≡ head_text (moved_head (Some path) closes says_kept max_age headers)
+unfolding head_text
+placed true says_kept max_age headers path =
+    ap (λ (x : List ℕ). (take 45 (head_text (moved_head None true says_kept max_age headers)) ++ codes "Location: ") ++ x) (regroup (path ++ line_end) (later true says_kept) headers line_end)
+placed false true max_age headers path =
+    ap (λ (x : List ℕ). (take 45 (head_text (moved_head None false true max_age headers)) ++ codes "Location: ") ++ x) (regroup (path ++ line_end) (later false true) headers line_end)
+placed false false max_age headers path =
+    ap (λ (x : List ℕ). (take 45 (head_text (moved_head None false false max_age headers)) ++ codes "Location: ") ++ x) (regroup (path ++ line_end) (later false false) headers line_end)
+
 pub redirect_head-is : (options : SiteOptions) (closes : Bool) (path lines head : List ℕ) → lines ≡ head_text (unplaced options closes)
     → head ≡ (((take 45 lines ++ codes "Location: ") ++ path) ++ line_end) ++ drop 45 lines
     → head ≡ redirect_head options path closes
-unfolding redirect_head head_text fixed_body
-redirect_head-is options true path lines head is_lines is_head =
+unfolding redirect_head fixed_body
+redirect_head-is options closes path lines head is_lines is_head =
     is_head
     ∙ ap (λ (x : List ℕ). (((take 45 x ++ codes "Location: ") ++ path) ++ line_end) ++ drop 45 x) is_lines
-    ∙ ap (λ (x : List ℕ). (take 45 (head_text (unplaced options true)) ++ codes "Location: ") ++ x) (regroup (path ++ line_end) (later true) options.added.headers line_end)
-redirect_head-is options false path lines head is_lines is_head =
-    is_head
-    ∙ ap (λ (x : List ℕ). (((take 45 x ++ codes "Location: ") ++ path) ++ line_end) ++ drop 45 x) is_lines
-    ∙ ap (λ (x : List ℕ). (take 45 (head_text (unplaced options false)) ++ codes "Location: ") ++ x) (regroup (path ++ line_end) (later false) options.added.headers line_end)
+    ∙ placed closes options.keeps_alive options.added.max_age options.added.headers path

@@ -76,7 +76,7 @@ content_text new fourth third second old media_type len is_second is_third is_fo
 -- the lines of a head by the row of its status
 abbrev lines_by : ResponseHead → Row → List ℕ
 lines_by head row =
-    ((((codes "HTTP/1.1 " ++ row.text) ++ line_end) ++ ((server_line ++ line_end) ++ lines_text (connection_lines head.closes
+    ((((codes "HTTP/1.1 " ++ row.text) ++ line_end) ++ ((server_line ++ line_end) ++ lines_text (connection_lines head.closes head.says_kept
     ++ last_modified_lines row.is_dated head.date ++ cache_lines row.is_dated head.max_age ++ allow_lines row.lists_methods
     ++ range_lines row.has_range head.range ++ content_lines row.body head.media_type head.len))) ++ head.headers) ++ line_end
 
@@ -105,7 +105,7 @@ added a b c d k e f g h whole status server connection modified cache allow rang
 pub head_text-parts : (head : ResponseHead) (row : Row) (a b c d k e f g h whole : List ℕ) → row ≡ row_of head.status
     → a ≡ (codes "HTTP/1.1 " ++ row.text) ++ line_end
     → b ≡ a ++ ((codes "Server: " ++ codes "sws") ++ line_end)
-    → c ≡ b ++ lines_text (connection_lines head.closes)
+    → c ≡ b ++ lines_text (connection_lines head.closes head.says_kept)
     → d ≡ c ++ lines_text (last_modified_lines row.is_dated head.date)
     → k ≡ d ++ lines_text (cache_lines row.is_dated head.max_age)
     → e ≡ k ++ lines_text (allow_lines row.lists_methods)
@@ -117,10 +117,10 @@ pub head_text-parts : (head : ResponseHead) (row : Row) (a b c d k e f g h whole
 unfolding head_text
 head_text-parts head row a b c d k e f g h whole is_row is_a is_b is_c is_d is_k is_e is_f is_g is_h is_whole =
     added a b c d k e f g h whole ((codes "HTTP/1.1 " ++ row.text) ++ line_end) (server_line ++ line_end)
-    (lines_text (connection_lines head.closes)) (lines_text modified) (lines_text cache) (lines_text allow) (lines_text range) (lines_text content) head.headers
+    (lines_text (connection_lines head.closes head.says_kept)) (lines_text modified) (lines_text cache) (lines_text allow) (lines_text range) (lines_text content) head.headers
     is_a is_b is_c is_d is_k is_e is_f is_g is_h is_whole
     ∙ ap (λ (x : List ℕ). ((((codes "HTTP/1.1 " ++ row.text) ++ line_end) ++ ((server_line ++ line_end) ++ x)) ++ head.headers) ++ line_end) (sym (
-    lines_text-groups (connection_lines head.closes) modified cache allow range content))
+    lines_text-groups (connection_lines head.closes head.says_kept) modified cache allow range content))
     ∙ ap (lines_by head) is_row
   where
     modified : List (List ℕ)
@@ -146,7 +146,7 @@ length-added new old more is = ap length is ∙ length-append old more
 
 -- a head that has room has it for all its lines, by the row of its status
 pub head-fits : (head : ResponseHead) (row : Row) → row ≡ row_of head.status → length (head_text head) ≤ 1360
-    → length ((codes "HTTP/1.1 " ++ row.text) ++ line_end) + length ((codes "Server: " ++ codes "sws") ++ line_end) + length (lines_text (connection_lines head.closes))
+    → length ((codes "HTTP/1.1 " ++ row.text) ++ line_end) + length ((codes "Server: " ++ codes "sws") ++ line_end) + length (lines_text (connection_lines head.closes head.says_kept))
     + length (lines_text (last_modified_lines row.is_dated head.date)) + length (lines_text (allow_lines row.lists_methods))
     + length (lines_text (range_lines row.has_range head.range)) + length (lines_text (content_lines row.body head.media_type head.len))
     + length (lines_text (cache_lines row.is_dated head.max_age)) + length head.headers + 2 ≤ 1360
@@ -154,7 +154,7 @@ head-fits head row is fits = subst Fits (sym is) (omega (arith, length-head_text
   where
     Fits : Row → Type 0
     Fits row =
-        length ((codes "HTTP/1.1 " ++ row.text) ++ line_end) + length ((codes "Server: " ++ codes "sws") ++ line_end) + length (lines_text (connection_lines head.closes))
+        length ((codes "HTTP/1.1 " ++ row.text) ++ line_end) + length ((codes "Server: " ++ codes "sws") ++ line_end) + length (lines_text (connection_lines head.closes head.says_kept))
         + length (lines_text (last_modified_lines row.is_dated head.date)) + length (lines_text (allow_lines row.lists_methods))
         + length (lines_text (range_lines row.has_range head.range)) + length (lines_text (content_lines row.body head.media_type head.len))
         + length (lines_text (cache_lines row.is_dated head.max_age)) + length head.headers + 2 ≤ 1360

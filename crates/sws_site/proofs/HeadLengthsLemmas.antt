@@ -129,9 +129,10 @@ date_text-short date =
 lines-append : (a b : List (List ℕ)) → length (lines_text (a ++ b)) ≡ length (lines_text a) + length (lines_text b)
 lines-append a b = ap length (flat_map-append (λ line. line ++ line_end) a b) ∙ length-append (lines_text a) (lines_text b)
 
-connection-short : (closes : Bool) → length (lines_text (connection_lines closes)) ≤ 19
-connection-short true = lit≤ tt
-connection-short false = lit≤ tt
+connection-short : (closes says_kept : Bool) → length (lines_text (connection_lines closes says_kept)) ≤ 24
+connection-short true says_kept = lit≤ tt
+connection-short false true = lit≤ tt
+connection-short false false = lit≤ tt
 
 date_line-short : (text : List ℕ) → length text ≤ 29 → length (lines_text ((codes "Last-Modified: " ++ text) ∷ [])) ≤ 46
 date_line-short text short = simp length-append (omega arith)
@@ -140,29 +141,43 @@ dates-short : (date : Option HttpDate) → length (lines_text (date_lines date))
 dates-short None = lit≤ tt
 dates-short (Some date) = date_line-short (date_text date) (date_text-short date)
 
--- the numbers of a range are those of a file of a site
-abbrev pub IsShortRange : Option ContentRange → Type 0
-IsShortRange None = ⊤
-IsShortRange (Some (Selected first last len)) = (first ≤ size_limit) × (last ≤ size_limit) × (len ≤ size_limit)
-IsShortRange (Some (NoSuch len)) = len ≤ size_limit
+-- the numbers of a range are those of a file of a site, and so is the length of the content that is sent for it
+abbrev pub IsShortRange : Option ContentRange → ℕ → Type 0
+IsShortRange None sent = ⊤
+IsShortRange (Some (Selected first last len)) sent = (first ≤ size_limit) × (last ≤ size_limit) × (len ≤ size_limit) × (sent ≤ size_limit)
+IsShortRange (Some (NoSuch len)) sent = (len ≤ size_limit) × (sent ≤ size_limit)
 
 digits-short : (n : ℕ) → n ≤ size_limit → length (decimal n) ≤ 10
 digits-short n small = length-decimal-le 10 n (lit< tt) (omega arith) (omega arith)
 
-range-short : (range : Option ContentRange) → IsShortRange range → length (lines_text (content_range_lines range)) ≤ 55
-range-short None short = lit≤ tt
-range-short (Some (Selected first last len)) short =
+range-short : (range : Option ContentRange) (sent : ℕ) → IsShortRange range sent → length (lines_text (content_range_lines range)) ≤ 55
+range-short None sent short = lit≤ tt
+range-short (Some (Selected first last len)) sent short =
     let a = digits-short first short.0 in
     let b = digits-short last short.1 in
     let c = digits-short len short.2 in
     simp length-append (omega (arith, a, b, c))
-range-short (Some (NoSuch len)) short =
-    let a = digits-short len short in
+range-short (Some (NoSuch len)) sent short =
+    let a = digits-short len short.0 in
     simp length-append (omega (arith, a))
 
 media_type_and_len-short : (media_type : List ℕ) (len : ℕ) → length media_type ≤ 80 → len < 2 ^ 64 → length (lines_text (media_type_and_len_lines media_type len)) ≤ 134
 media_type_and_len-short media_type len short few =
     let digits = length-decimal-le 20 len (lit< tt) (omega arith) few in simp length-append (omega (arith, digits))
+
+few_digits-short : (media_type : List ℕ) (len : ℕ) → length media_type ≤ 80 → len ≤ size_limit → length (lines_text (media_type_and_len_lines media_type len)) ≤ 124
+few_digits-short media_type len short few =
+    let digits = digits-short len few in simp length-append (omega (arith, digits))
+
+-- what is said of a range and of the content
+range_and_content-short : (range : Option ContentRange) (media_type : List ℕ) (len : ℕ) → IsShortRange range len → length media_type ≤ 80 → len < 2 ^ 64
+    → length (lines_text (content_range_lines range)) + length (lines_text (media_type_and_len_lines media_type len)) ≤ 179
+range_and_content-short None media_type len range short few =
+    let none : length (lines_text (content_range_lines None)) ≤ 0 = lit≤ tt in omega (arith, none, media_type_and_len-short media_type len short few)
+range_and_content-short (Some (Selected first last all)) media_type len range short few =
+    omega (arith, range-short (Some (Selected first last all)) len range, few_digits-short media_type len short range.3)
+range_and_content-short (Some (NoSuch all)) media_type len range short few =
+    omega (arith, range-short (Some (NoSuch all)) len range, few_digits-short media_type len short range.1)
 
 -- the seconds have at most 32 bits
 max_age-short : (max_age : Option ℕ) → ForSome max_age (λ seconds. seconds < 2 ^ 32) → length (lines_text (max_age_lines max_age)) ≤ 35
@@ -174,14 +189,14 @@ max_age-short (Some seconds) short =
 pub length-head_text : (head : ResponseHead)
     → length (head_text head)
     ≡ length (status_line head.status ++ line_end) + length (server_line ++ line_end) + length (lines_text (location_lines head.location))
-    + length (lines_text (connection_lines head.closes))
+    + length (lines_text (connection_lines head.closes head.says_kept))
     + length (lines_text (last_modified_lines (row_of head.status).is_dated head.date)) + length (lines_text (allow_lines (row_of head.status).lists_methods))
     + length (lines_text (range_lines (row_of head.status).has_range head.range)) + length (lines_text (content_lines (row_of head.status).body head.media_type head.len))
     + length (lines_text (cache_lines (row_of head.status).is_dated head.max_age)) + length head.headers + 2
 unfolding head_text
 length-head_text head =
     let l = location_lines head.location in
-    let a = connection_lines head.closes in
+    let a = connection_lines head.closes head.says_kept in
     let b = last_modified_lines (row_of head.status).is_dated head.date in
     let k = cache_lines (row_of head.status).is_dated head.max_age in
     let c = allow_lines (row_of head.status).lists_methods in
@@ -202,13 +217,13 @@ length-head_text head =
     )
 
 -- whatever it says, a head is short, but for the line of a location
-pub head_text-short : (head : ResponseHead) → length head.media_type ≤ 80 → head.len < 2 ^ 64 → IsShortRange head.range
+pub head_text-short : (head : ResponseHead) → length head.media_type ≤ 80 → head.len < 2 ^ 64 → IsShortRange head.range head.len
     → ForSome head.max_age (λ seconds. seconds < 2 ^ 32) → length head.headers ≤ 1024
     → length (head_text head) ≤ 1360 + length (lines_text (location_lines head.location))
 head_text-short head media_type few range age headers = by_status head.status
   where
-    connection : length (lines_text (connection_lines head.closes)) ≤ 19
-    connection = connection-short head.closes
+    connection : length (lines_text (connection_lines head.closes head.says_kept)) ≤ 24
+    connection = connection-short head.closes head.says_kept
 
     dates : length (lines_text (date_lines head.date)) ≤ 46
     dates = dates-short head.date
@@ -217,10 +232,13 @@ head_text-short head media_type few range age headers = by_status head.status
     kept = max_age-short head.max_age age
 
     about : length (lines_text (content_range_lines head.range)) ≤ 55
-    about = range-short head.range range
+    about = range-short head.range head.len range
 
     content : length (lines_text (media_type_and_len_lines head.media_type head.len)) ≤ 134
     content = media_type_and_len-short head.media_type head.len media_type few
+
+    range_and_content : length (lines_text (content_range_lines head.range)) + length (lines_text (media_type_and_len_lines head.media_type head.len)) ≤ 179
+    range_and_content = range_and_content-short head.range head.media_type head.len range media_type few
 
     by_status : (status : Status) → length (head_text (record head { status = status })) ≤ 1360 + length (lines_text (location_lines head.location))
     by_status Success =
@@ -228,7 +246,7 @@ head_text-short head media_type few range age headers = by_status head.status
         omega (arith, length-head_text (record head { status = Success }), line, connection, dates, kept, about, content, headers)
     by_status PartialContent =
         let line : length (status_line PartialContent ++ line_end) ≤ 30 = lit≤ tt in
-        omega (arith, length-head_text (record head { status = PartialContent }), line, connection, dates, kept, about, content, headers)
+        omega (arith, length-head_text (record head { status = PartialContent }), line, connection, dates, kept, range_and_content, headers)
     by_status MovedPermanently =
         let line : length (status_line MovedPermanently ++ line_end) ≤ 32 = lit≤ tt in
         omega (arith, length-head_text (record head { status = MovedPermanently }), line, connection, dates, kept, about, content, headers)

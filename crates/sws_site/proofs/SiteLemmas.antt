@@ -17,7 +17,7 @@ use Rattle.sws_site.specs.Stored.{HasHeads, file_of}
 
 -- either head
 built_head-text : (options : SiteOptions) (status : Status) (date : Option HttpDate) (media_type : List ℕ) (response : BuiltResponse) (closes : Bool) → IsBuilt options status date media_type response
-    → built_head response closes ≡ head_text (record { status = status; location = None; closes = closes; date = date; max_age = options.added.max_age; range = None; media_type = media_type; len = length response.body.items; headers = options.added.headers })
+    → built_head response closes ≡ head_text (record { status = status; location = None; closes = closes; says_kept = options.keeps_alive; date = date; max_age = options.added.max_age; range = None; media_type = media_type; len = length response.body.items; headers = options.added.headers })
 built_head-text options status date media_type response true built = built.closing_head
 built_head-text options status date media_type response false built = built.open_head
 
@@ -31,14 +31,14 @@ pub built_head-not_modified : (options : SiteOptions) (date : Option HttpDate) (
 unfolding not_modified_head
 built_head-not_modified options date response closes built none =
     built_head-text options NotModified date [] response closes built
-    ∙ ap (λ (body : List ℕ). head_text (record { status = NotModified; location = None; closes = closes; date = date; max_age = options.added.max_age; range = None; media_type = []; len = length body; headers = options.added.headers })) none
+    ∙ ap (λ (body : List ℕ). head_text (record { status = NotModified; location = None; closes = closes; says_kept = options.keeps_alive; date = date; max_age = options.added.max_age; range = None; media_type = []; len = length body; headers = options.added.headers })) none
 
 pub built_head-refusal : (site : SiteState) (status : Status) (response : BuiltResponse) (closes : Bool)
     → IsRefusal site.options (not_found_page site.options site.files) status response → built_head response closes ≡ refusal_head site status closes
 unfolding refusal_head
 built_head-refusal site status response closes refusal =
     built_head-text site.options status None (told_type site.options (status_page site status)) response closes refusal.heads
-    ∙ ap (λ (body : List ℕ). head_text (record { status = status; location = None; closes = closes; date = None; max_age = site.options.added.max_age; range = None; media_type = told_type site.options (status_page site status); len = length body; headers = site.options.added.headers })) refusal.body
+    ∙ ap (λ (body : List ℕ). head_text (record { status = status; location = None; closes = closes; says_kept = site.options.keeps_alive; date = None; max_age = site.options.added.max_age; range = None; media_type = told_type site.options (status_page site status); len = length body; headers = site.options.added.headers })) refusal.body
 
 pub refusal_body-text : (site : SiteState) (status : Status) (response : BuiltResponse)
     → IsRefusal site.options (not_found_page site.options site.files) status response → response.body.items ≡ refusal_body site status

@@ -14,6 +14,7 @@ pub record IsBuilt (options : SiteOptions) (status : Status) (date : Option Http
         status = status;
         location = None;
         closes = false;
+        says_kept = options.keeps_alive;
         date = date;
         max_age = options.added.max_age;
         range = None;
@@ -26,6 +27,7 @@ pub record IsBuilt (options : SiteOptions) (status : Status) (date : Option Http
         status = status;
         location = None;
         closes = true;
+        says_kept = options.keeps_alive;
         date = date;
         max_age = options.added.max_age;
         range = None;

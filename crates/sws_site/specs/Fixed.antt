@@ -70,6 +70,7 @@ refusal_head site status closes =
       status = status;
       location = None;
       closes = closes;
+      says_kept = site.options.keeps_alive;
       date = None;
       max_age = site.options.added.max_age;
       range = None;

@@ -51,6 +51,7 @@ redirect_head options path closes =
       status = MovedPermanently;
       location = Some path;
       closes = closes;
+      says_kept = options.keeps_alive;
       date = None;
       max_age = options.added.max_age;
       range = None;

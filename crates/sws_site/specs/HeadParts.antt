@@ -10,6 +10,7 @@ head_of parts =
       status = parts.status;
       location = None;
       closes = parts.closes;
+      says_kept = parts.options.now.keeps_alive;
       date = parts.date.now;
       max_age = parts.options.now.added.max_age;
       range = parts.range;

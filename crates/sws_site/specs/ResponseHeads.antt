@@ -12,13 +12,15 @@ use Rattle.sws_site.specs.declared.heads.ContentRange.TheVariants.{Selected, NoS
 use Rattle.sws_site.specs.Statuses.{row_of, status_text}
 
 -- what a head says: the status, where what is asked for is to be found, if that is elsewhere, whether
--- the connection ends with this response, when the site was last modified, for how many seconds a
--- file may be kept, which part of a file the response is about, the media type and the length of the
--- content that it has, or would have for GET, and the lines that the site adds, with their ends
+-- the connection ends with this response, and whether that it doesn't is said, when the site was last
+-- modified, for how many seconds a file may be kept, which part of a file the response is about, the
+-- media type and the length of the content that it has, or would have for GET, and the lines that the
+-- site adds, with their ends
 pub record ResponseHead : Type 0 where
   pub status : Status
   pub location : Option (List ℕ)
   pub closes : Bool
+  pub says_kept : Bool
   pub date : Option HttpDate
   pub max_age : Option ℕ
   pub range : Option ContentRange
@@ -39,10 +41,12 @@ abbrev pub location_lines : Option (List ℕ) → List (List ℕ)
 location_lines None = []
 location_lines (Some path) = (codes "Location: " ++ path) ∷ []
 
--- the connection ends with this response (RFC 9112, section 9.6)
-abbrev pub connection_lines : Bool → List (List ℕ)
-connection_lines true = codes "Connection: close" ∷ []
-connection_lines false = []
+-- the connection ends with this response (RFC 9112, section 9.6), or stays open after it, where that
+-- is said (RFC 9112, section 9.3)
+abbrev pub connection_lines : Bool → Bool → List (List ℕ)
+connection_lines true says_kept = codes "Connection: close" ∷ []
+connection_lines false true = codes "Connection: keep-alive" ∷ []
+connection_lines false false = []
 
 -- the date as an IMF-fixdate (RFC 9110, sections 5.6.7 and 8.8.2)
 abbrev pub date_lines : Option HttpDate → List (List ℕ)
@@ -101,7 +105,7 @@ head_lines head =
     status_line head.status
     ∷ server_line
     ∷ (location_lines head.location
-    ++ connection_lines head.closes
+    ++ connection_lines head.closes head.says_kept
     ++ last_modified_lines row.is_dated head.date
     ++ cache_lines row.is_dated head.max_age
     ++ allow_lines row.lists_methods

@@ -60,13 +60,16 @@ fn add_line(head: &mut OwnHead, name: &[u8], value: &[u8])
     head.put(b"\r\n");
 }
 
-/// Says that the connection ends, if it does.
-fn add_connection(head: &mut OwnHead, closes: bool)
-    requires { length head.old + length (lines_text (connection_lines closes)) ≤ MAX_OWN_HEAD }
-    ensures { head.new ≡ head.old ++ lines_text (connection_lines closes) }
+/// Says that the connection ends, if it does, and else that it stays open, where that is said.
+fn add_connection(head: &mut OwnHead, closes: bool, says_kept: bool)
+    requires { length head.old + length (lines_text (connection_lines closes says_kept))
+        ≤ MAX_OWN_HEAD }
+    ensures { head.new ≡ head.old ++ lines_text (connection_lines closes says_kept) }
 {
     if closes {
         add_line(head, b"Connection: ", b"close");
+    } else if says_kept {
+        add_line(head, b"Connection: ", b"keep-alive");
     }
 }
 
@@ -185,7 +188,7 @@ pub fn write_head(parts: &HeadParts<'_>) -> OwnHead
     let mut head = OwnHead::new();
     add_line(&mut head, b"HTTP/1.1 ", row.text);
     add_line(&mut head, b"Server: ", b"sws");
-    add_connection(&mut head, parts.closes);
+    add_connection(&mut head, parts.closes, parts.options.keeps_alive);
     add_last_modified(&mut head, row.is_dated, parts.date);
     add_cache(&mut head, row.is_dated, &parts.options.added.max_age);
     add_allow(&mut head, row.lists_methods);

@@ -29,6 +29,13 @@ pub struct SiteOptions {
     /// has, or the length of its content is no number, or is given twice, or beside a coding
     /// (RFC 9112, sections 3.2 and 6.3).
     pub refuses_ambiguous: bool,
+    /// The connection of an HTTP/1.0 client that asks for it stays open, and each response after
+    /// which a connection stays open says so (RFC 9112, section 9.3).
+    pub keeps_alive: bool,
+    /// A request for a part of a file on the condition `If-Range` gets that part where the condition
+    /// names the site's date as its responses have it, and else the whole file (RFC 9110, section
+    /// 13.1.5). Without this it gets the whole file whatever the condition is.
+    pub reads_if_range: bool,
     /// How many requests of a connection are answered, of which the last closes it: 1 to 65,535,
     /// and 0 means 1.
     pub answers: u16,
@@ -54,6 +61,8 @@ impl SiteOptions {
             sends_not_found_page: false,
             redirects_to_folders: false,
             refuses_ambiguous: false,
+            keeps_alive: false,
+            reads_if_range: false,
             answers: 64,
             input: 65536,
             max_files: 4096,
@@ -72,6 +81,8 @@ impl SiteOptions {
             sends_not_found_page: self.sends_not_found_page,
             redirects_to_folders: self.redirects_to_folders,
             refuses_ambiguous: self.refuses_ambiguous,
+            keeps_alive: self.keeps_alive,
+            reads_if_range: self.reads_if_range,
             answers: self.answers,
             input: self.input,
             max_files: self.max_files,

@@ -4,6 +4,7 @@
 #![tactic(auto)]
 
 mod additions;
+mod guests;
 mod order;
 
 pub use order::{LogFault, LogFormat, Order, WordsFault, read_order};

@@ -1,9 +1,10 @@
 //! The words of `swsd`.
 use crate::additions::{additions_of, with_additions};
+use crate::guests::{fronts_of, with_guests};
 use clap::{Arg, ArgAction, ArgMatches, Command, Error, value_parser};
 use std::alloc::{AllocError, Global};
 use std::fmt;
-use std::net::SocketAddr;
+use std::net::{IpAddr, SocketAddr};
 use sws_site::{Additions, HeaderFault, TypeFault};
 
 /// What `--version` says.
@@ -67,6 +68,11 @@ pub struct Order {
     /// How many connections a generation has at most, 1 to 1,024.
     pub connections: u16,
 
+    /// How many connections an address may have at a time, 1 to 1,048,576, where that is counted, and
+    /// of which addresses it isn't.
+    pub per_address: Option<u32>,
+    pub fronts: Vec<IpAddr>,
+
     /// How many requests of a connection are answered, 1 to 65,535.
     pub answers: u16,
 
@@ -124,6 +130,9 @@ pub enum WordsFault {
     /// There are more addresses than this one and those before it may be.
     ManyAddresses(String),
 
+    /// The word of `--front` is no address.
+    Front(String),
+
     /// The word of `--header` is no name with a value behind a colon and a space.
     HeaderParts(String),
 
@@ -166,6 +175,10 @@ impl fmt::Display for WordsFault {
             WordsFault::ManyAddresses(word) => write!(
                 f,
                 "error: invalid value '{word}' for '--listen <ADDRESS:PORT>': it may stand 16 times at most\n"
+            ),
+            WordsFault::Front(word) => write!(
+                f,
+                "error: invalid value '{word}' for '--front <ADDRESS>': expected an address, as 127.0.0.1 or ::1\n"
             ),
             WordsFault::HeaderParts(word) => write!(
                 f,
@@ -383,7 +396,10 @@ fn whole<'a>(alloc: Global) -> Result<Command<'a>, AllocError> {
                 alloc,
                 with_limits(
                     alloc,
-                    with_times(alloc, with_numbers(alloc, places(alloc)?)?)?,
+                    with_times(
+                        alloc,
+                        with_guests(alloc, with_numbers(alloc, places(alloc)?)?)?,
+                    )?,
                 )?,
             )?,
         )?,
@@ -493,6 +509,8 @@ fn order_of(
         lanes,
         accepting: accepting.min(lanes),
         connections: matches.get_one::<u16>("connections").unwrap_or(1024),
+        per_address: matches.get_one::<u32>("per-address"),
+        fronts: fronts_of(alloc, matches)?,
         answers: matches.get_one::<u16>("answers").unwrap_or(1000),
         input: matches.get_one::<u32>("input").unwrap_or(4_194_304),
         max_files: matches.get_one::<u32>("files").unwrap_or(65_536),

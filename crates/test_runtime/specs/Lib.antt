@@ -1,1 +1,2 @@
 pub mod ShardExamples
+pub mod Examples

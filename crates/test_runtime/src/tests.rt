@@ -5,3 +5,6 @@ mod locks;
 mod queues;
 mod shards;
 mod stealing;
+mod sums;
+mod weaves;
+mod workers;

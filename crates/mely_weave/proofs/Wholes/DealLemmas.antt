@@ -6,7 +6,7 @@ use Rattle.std.proofs.lemmas.List.{length-set}
 use Rattle.std.proofs.lemmas.Nat.{div-mul-add, mod-mul-add, div-add-mod'}
 use Rattle.std.proofs.lemmas.Option.{slice_get_within, same_Some}
 use Rattle.std.specs.Prelude.{slice_get, slice_set}
-use Rattle.mely_weave.specs.Dealing.{AreDealt}
+use Rattle.mely_weave.specs.Dealing.{AreDealt, HaveRoomFor, IsWithinShare}
 use Rattle.mely_weave.proofs.Wholes.GatherLemmas.{get_there}
 use Rattle.mely_weave.proofs.Lines.StepLemmas.{others_set}
 
@@ -46,6 +46,28 @@ module _ {X Y : Type 0} (items : Y → List X) (shards : ℕ) (some : 1 ≤ shar
               absurd (omega (arith, there, last, turn, many))
           | inr less ↦ omega (arith, full, less)
         ]
+
+  -- there is room for one more in the pile of the shard whose turn it is
+  pub less_than_room : (all : List X) (piles : List Y) (old : Y) (n total room : ℕ) → length all ≡ n → n < total → total ≤ room * shards → AreDealt items shards all piles → slice_get piles (n % shards) ≡ Some old → length (items old) < room
+  less_than_room all piles old n total room many less enough dealt there =
+      let low : n % shards < shards = omega (arith, some) in
+      let last : n / shards * shards + n % shards ≡ n = div-add-mod' n shards in
+      let size : length (items old) ≡ n / shards = pile_length all (n % shards) (items old) low (dealt.each (n % shards) old there) n many refl in
+      elim (cases_lt (n / shards) room) [
+        | inl under ↦ omega (arith, under, size)
+        | inr over ↦
+            let step = mul-le-mul_right shards over in
+            absurd (omega (arith, step, last, less, enough))
+      ]
+
+  -- each pile is within its share
+  pub dealt_few : (all : List X) (piles : List Y) → AreDealt items shards all piles → (total : ℕ) → length all ≡ total → (shard : ℕ) (pile : Y) → slice_get piles shard ≡ Some pile → IsWithinShare total shards (length (items pile))
+  dealt_few all piles dealt total many shard pile at room enough = elim (cases_lt room (length (items pile))) [
+    | inl more ↦
+        let there = within_both (items pile) all room (room * shards + shard) (dealt.each shard pile at room) more in
+        absurd (omega (arith, there, enough, many))
+    | inr less ↦ less
+  ]
 
   -- one more is dealt to the shard whose turn it is
   pub dealt_more : (all : List X) (piles : List Y) (old new : Y) (x : X) (n : ℕ) → length all ≡ n → AreDealt items shards all piles → slice_get piles (n % shards) ≡ Some old → items new ≡ items old ++ x ∷ [] → AreDealt items shards (all ++ x ∷ []) (slice_set piles (n % shards) new)
@@ -92,3 +114,31 @@ both_push Has xs ys x y n many_xs many_ys all is k a b at_xs at_ys = ⊎_elim
 pub seam_at : {A : Type 0} (xs : List A) (x : A) (ys : List A) → slice_get (xs ++ x ∷ ys) (length xs) ≡ Some x
 seam_at [] x ys = refl
 seam_at (z ∷ zs) x ys = seam_at zs x ys
+
+-- there is as much room after one list became longer within its own
+pub room_kept : {Y : Type 0} (room : Y → ℕ) (all shards : ℕ) (rooms : List Y) (old new : Y) (p : ℕ) → slice_get rooms p ≡ Some old → room new ≡ room old → HaveRoomFor room all shards rooms → HaveRoomFor room all shards (slice_set rooms p new)
+room_kept room all shards rooms old new p there same have = record {
+  many = length-set rooms p new ∙ have.many;
+  each = others_set (λ _ r. all ≤ room r * shards) rooms p old new there (λ k r apart at. have.each k r at) (subst (λ n. all ≤ n * shards) (sym same) (have.each p old there));
+}
+
+-- what each has, the last has, and those before it
+pub each_popped : {Y : Type 0} (Has : Y → Type 0) (xs ys : List Y) (y : Y) → xs ≡ ys ++ y ∷ [] → ((i : ℕ) (r : Y) → slice_get xs i ≡ Some r → Has r) → Has y × ((i : ℕ) (r : Y) → slice_get ys i ≡ Some r → Has r)
+each_popped Has xs ys y is all = (
+  all (length ys) y (ap (λ l. slice_get l (length ys)) is ∙ push_at ys y),
+  λ i r at. all i r (ap (λ l. slice_get l i) is ∙ push_other ys y i (λ e. let within = slice_get_within ys i r at in omega (arith, within, e)) ∙ at),
+)
+
+-- so many times the number of shards, and one more, hold all
+pub most_enough : (all shards : ℕ) → 1 ≤ shards → all ≤ (all / shards + 1) * shards
+most_enough all shards some =
+    let last : all / shards * shards + all % shards ≡ all = div-add-mod' all shards in
+    let less : all % shards < shards = omega (arith, some) in
+    omega (arith, last, less)
+
+-- rooms for so many each have room for all
+pub have_room : {Y : Type 0} (room : Y → ℕ) (all shards most : ℕ) (rooms : List Y) → length rooms ≡ shards → all ≤ most * shards → ((k : ℕ) (r : Y) → slice_get rooms k ≡ Some r → most ≤ room r) → HaveRoomFor room all shards rooms
+have_room room all shards most rooms many enough each = record {
+  many = many;
+  each = λ k r at. let more = mul-le-mul_right shards (each k r at) in omega (arith, more, enough);
+}

@@ -1,7 +1,7 @@
 -- A weave at first.
 use Rattle.std.proofs.Common.{◌≡◌, ℕ, zero, suc, ◌+◌, ◌*◌, ◌≤◌, false, List, [], ◌∷◌, Option, Some, length, map, refl, ap, sym, ◌∙◌, subst, arith, add-one}
 use Rattle.std.proofs.lemmas.Nat.{div-add-mod'}
-use Rattle.std.proofs.lemmas.Option.{slice_get_within}
+use Rattle.std.proofs.lemmas.Option.{slice_get_within, same_Some}
 use Rattle.std.specs.Prelude.{◌==◌, ◌&&◌, slice_get}
 use Rattle.std.specs.List.{AllByRecursion}
 use Rattle.mely_event.specs.declared.colour.Colour.{Colour}
@@ -12,7 +12,7 @@ use Rattle.mely_history.specs.declared.entry.Entry.{Entry}
 use Rattle.mely_history.specs.Setup.{shape_of, colours_of}
 use Rattle.mely_history.specs.History.{IsRunning}
 use Rattle.mely_history.specs.ColourAccount.{account_of}
-use Rattle.mely_shard.specs.Shard.{ShardState, ColourState, AreInitialStates, IsInitialShard, initial_lane, place}
+use Rattle.mely_shard.specs.Shard.{ShardState, ColourState, AreInitialStates, IsInitialShard, initial_lane, givens, place}
 use Rattle.mely_core.specs.CoreQueue.{CoreQueueState}
 use Rattle.mely_steal.specs.Victims.{victims_of}
 use Rattle.mely_worker.specs.declared.phase.Phase.TheVariants.{Free}
@@ -58,6 +58,11 @@ givens_first : {S : Type 0} (P : Type 0) (states : List S) → map (λ (lane : C
 givens_first P [] = refl
 givens_first P (state ∷ states) = ap (λ rest. state ∷ rest) (givens_first P states)
 
+-- where each shard is initial with what it was given, it is so with the pile at its own place
+pub of_givens : {S P : Type 0} (setup : Setup) (shards : List (ShardState S P)) → ((shard : ℕ) (has : ShardState S P) → slice_get shards shard ≡ Some has → IsInitialShard setup shard (givens has) has)
+    → (shard : ℕ) (pile has : ShardState S P) → slice_get shards shard ≡ Some pile → slice_get shards shard ≡ Some has → IsInitialShard setup shard (givens pile) has
+of_givens setup shards first shard pile has at_pile at = subst (λ p. IsInitialShard setup shard (givens p) has) (same_Some has pile (sym at ∙ at_pile)) (first shard has at)
+
 module _ {S P F Y : Type 0} (t : TrailWords S F) (fits : F → Colour → Event → Option P → Type 0) (setup : Setup) (states : List S) (first : AreInitial t setup states)
     (items : Y → List S) (piles : List Y) (dealt : AreDealt items (shape_of setup).shards states piles) where
   -- each shard is dealt its first states
@@ -81,6 +86,20 @@ module _ {S P F Y : Type 0} (t : TrailWords S F) (fits : F → Colour → Event 
     dealt_to shard has at =
         let at_pile = get_there piles shard (let low = slice_get_within shards shard has at in let count = dealt.many in omega (arith, low, many, count)) in
         record { pile = at_pile.0; there = at_pile.1; is = are shard at_pile.0 has at_pile.1 at }
+
+    -- what a shard was given is what lies in its pile
+    dealt_pile : (shard : ℕ) (has : ShardState S P) (at : slice_get shards shard ≡ Some has) → givens has ≡ items (dealt_to shard has at).pile
+    dealt_pile shard has at = ap (λ lanes. map (λ (lane : ColourState S P). lane.given) lanes) (dealt_to shard has at).is.lanes ∙ givens_first P (items (dealt_to shard has at).pile)
+
+    -- so the shards are dealt what they were given
+    pub dealt_givens : AreDealt givens (shape_of setup).shards states shards
+    dealt_givens = record {
+      many = many;
+      each = λ shard has at i. ap (λ xs. slice_get xs i) (dealt_pile shard has at) ∙ dealt.each shard (dealt_to shard has at).pile (dealt_to shard has at).there i;
+    }
+
+    pub first_givens : (shard : ℕ) (has : ShardState S P) → slice_get shards shard ≡ Some has → IsInitialShard setup shard (givens has) has
+    first_givens shard has at = subst (λ xs. IsInitialShard setup shard xs has) (sym (dealt_pile shard has at)) (dealt_to shard has at).is
 
     a_state : (state : S) × (slice_get states 0 ≡ Some state)
     a_state = get_there states 0 (let some : 1 ≤ colours_of setup = setup.colours_in.0 in let all = first.all in omega (arith, some, all))

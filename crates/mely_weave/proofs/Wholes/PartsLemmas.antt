@@ -37,7 +37,7 @@ free_runs (Pushing to mark) c free runs = none-some c runs
 free_runs (Turning turn hand puts) c free runs = cc
 
 -- an element that an equal list has too
-get_same : {A B C : Type 0} (f : A → C) (g : B → C) (xs : List A) (ys : List B) (i : ℕ) (y : B) → map f xs ≡ map g ys → slice_get ys i ≡ Some y → (x : A) × ((slice_get xs i ≡ Some x) × (f x ≡ g y))
+pub get_same : {A B C : Type 0} (f : A → C) (g : B → C) (xs : List A) (ys : List B) (i : ℕ) (y : B) → map f xs ≡ map g ys → slice_get ys i ≡ Some y → (x : A) × ((slice_get xs i ≡ Some x) × (f x ≡ g y))
 get_same f g xs ys i y same at =
     let low : i < length xs = let within = slice_get_within ys i y at in let many = ap length same in omega (arith, within, many, length-map xs f, length-map ys g) in
     let here = get_there xs i low in

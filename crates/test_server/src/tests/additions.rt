@@ -34,6 +34,8 @@ fn options(added: Additions) -> SiteOptions {
         sends_not_found_page: true,
         redirects_to_folders: true,
         refuses_ambiguous: true,
+        keeps_alive: true,
+        reads_if_range: true,
         answers: 1000,
         input: 4_194_304,
         max_files: 65_536,
@@ -47,7 +49,7 @@ fn options(added: Additions) -> SiteOptions {
 static SENT: [(&[u8], &[u8]); 9] = [
     (
         b"GET /a.html HTTP/1.1\r\nHost: h\r\n\r\n",
-        b"HTTP/1.1 200 OK\r\nServer: sws\r\nLast-Modified: Sun, 06 Nov 1994 08:49:37 GMT\r\nCache-Control: max-age=3600\r\nContent-Type: text/html; charset=utf-8\r\nContent-Length: 10\r\nX-Frame-Options: DENY\r\nVary: Accept, Origin\r\n\r\n0123456789",
+        b"HTTP/1.1 200 OK\r\nServer: sws\r\nConnection: keep-alive\r\nLast-Modified: Sun, 06 Nov 1994 08:49:37 GMT\r\nCache-Control: max-age=3600\r\nContent-Type: text/html; charset=utf-8\r\nContent-Length: 10\r\nX-Frame-Options: DENY\r\nVary: Accept, Origin\r\n\r\n0123456789",
     ),
     (
         b"GET /b.wasm HTTP/1.0\r\n\r\n",
@@ -55,27 +57,27 @@ static SENT: [(&[u8], &[u8]); 9] = [
     ),
     (
         b"GET /a.html HTTP/1.1\r\nHost: h\r\nRange: bytes=2-3\r\n\r\n",
-        b"HTTP/1.1 206 Partial Content\r\nServer: sws\r\nLast-Modified: Sun, 06 Nov 1994 08:49:37 GMT\r\nCache-Control: max-age=3600\r\nContent-Range: bytes 2-3/10\r\nContent-Type: text/html; charset=utf-8\r\nContent-Length: 2\r\nX-Frame-Options: DENY\r\nVary: Accept, Origin\r\n\r\n23",
+        b"HTTP/1.1 206 Partial Content\r\nServer: sws\r\nConnection: keep-alive\r\nLast-Modified: Sun, 06 Nov 1994 08:49:37 GMT\r\nCache-Control: max-age=3600\r\nContent-Range: bytes 2-3/10\r\nContent-Type: text/html; charset=utf-8\r\nContent-Length: 2\r\nX-Frame-Options: DENY\r\nVary: Accept, Origin\r\n\r\n23",
     ),
     (
         b"GET /a.html HTTP/1.1\r\nHost: h\r\nIf-Modified-Since: Sun, 06 Nov 1994 08:49:37 GMT\r\n\r\n",
-        b"HTTP/1.1 304 Not Modified\r\nServer: sws\r\nLast-Modified: Sun, 06 Nov 1994 08:49:37 GMT\r\nCache-Control: max-age=3600\r\nX-Frame-Options: DENY\r\nVary: Accept, Origin\r\n\r\n",
+        b"HTTP/1.1 304 Not Modified\r\nServer: sws\r\nConnection: keep-alive\r\nLast-Modified: Sun, 06 Nov 1994 08:49:37 GMT\r\nCache-Control: max-age=3600\r\nX-Frame-Options: DENY\r\nVary: Accept, Origin\r\n\r\n",
     ),
     (
         b"GET /docs HTTP/1.1\r\nHost: h\r\n\r\n",
-        b"HTTP/1.1 301 Moved Permanently\r\nServer: sws\r\nLocation: /docs/\r\nContent-Type: text/plain\r\nContent-Length: 22\r\nX-Frame-Options: DENY\r\nVary: Accept, Origin\r\n\r\n301 Moved Permanently\n",
+        b"HTTP/1.1 301 Moved Permanently\r\nServer: sws\r\nLocation: /docs/\r\nConnection: keep-alive\r\nContent-Type: text/plain\r\nContent-Length: 22\r\nX-Frame-Options: DENY\r\nVary: Accept, Origin\r\n\r\n301 Moved Permanently\n",
     ),
     (
         b"GET /none HTTP/1.1\r\nHost: h\r\n\r\n",
-        b"HTTP/1.1 404 Not Found\r\nServer: sws\r\nContent-Type: text/html; charset=utf-8\r\nContent-Length: 6\r\nX-Frame-Options: DENY\r\nVary: Accept, Origin\r\n\r\nLost?\n",
+        b"HTTP/1.1 404 Not Found\r\nServer: sws\r\nConnection: keep-alive\r\nContent-Type: text/html; charset=utf-8\r\nContent-Length: 6\r\nX-Frame-Options: DENY\r\nVary: Accept, Origin\r\n\r\nLost?\n",
     ),
     (
         b"POST /a.html HTTP/1.1\r\nHost: h\r\n\r\n",
-        b"HTTP/1.1 405 Method Not Allowed\r\nServer: sws\r\nAllow: GET, HEAD\r\nContent-Type: text/plain\r\nContent-Length: 23\r\nX-Frame-Options: DENY\r\nVary: Accept, Origin\r\n\r\n405 Method Not Allowed\n",
+        b"HTTP/1.1 405 Method Not Allowed\r\nServer: sws\r\nConnection: keep-alive\r\nAllow: GET, HEAD\r\nContent-Type: text/plain\r\nContent-Length: 23\r\nX-Frame-Options: DENY\r\nVary: Accept, Origin\r\n\r\n405 Method Not Allowed\n",
     ),
     (
         b"GET /a.html HTTP/1.1\r\nHost: h\r\nRange: bytes=10-\r\n\r\n",
-        b"HTTP/1.1 416 Range Not Satisfiable\r\nServer: sws\r\nContent-Range: bytes */10\r\nContent-Type: text/plain\r\nContent-Length: 26\r\nX-Frame-Options: DENY\r\nVary: Accept, Origin\r\n\r\n416 Range Not Satisfiable\n",
+        b"HTTP/1.1 416 Range Not Satisfiable\r\nServer: sws\r\nConnection: keep-alive\r\nContent-Range: bytes */10\r\nContent-Type: text/plain\r\nContent-Length: 26\r\nX-Frame-Options: DENY\r\nVary: Accept, Origin\r\n\r\n416 Range Not Satisfiable\n",
     ),
     (
         b"HEAD /a.html HTTP/1.1\r\n\r\n",

@@ -16,6 +16,8 @@ fn all(alloc: Global) -> SiteOptions {
         sends_not_found_page: true,
         redirects_to_folders: true,
         refuses_ambiguous: true,
+        keeps_alive: true,
+        reads_if_range: true,
         answers: 1000,
         input: 4_194_304,
         max_files: 65_536,
@@ -175,18 +177,18 @@ static FOLDERS: [(&[u8], &[u8]); 6] = [
 
 /// The response that no file has the name.
 static NOT_FOUND: &[u8] =
-    b"HTTP/1.1 404 Not Found\r\nServer: sws\r\nContent-Type: text/plain\r\nContent-Length: 14\r\n\r\n404 Not Found\n";
+    b"HTTP/1.1 404 Not Found\r\nServer: sws\r\nConnection: keep-alive\r\nContent-Type: text/plain\r\nContent-Length: 14\r\n\r\n404 Not Found\n";
 
 /// Heads of requests, and the responses to them. A folder is redirected to by its own path, whatever
 /// the target looked like (RFC 9110, sections 10.2.2 and 15.4.2).
 static REDIRECTS: [(&[u8], &[u8]); 8] = [
     (
         b"GET /docs HTTP/1.1\r\nHost: h\r\n\r\n",
-        b"HTTP/1.1 301 Moved Permanently\r\nServer: sws\r\nLocation: /docs/\r\nContent-Type: text/plain\r\nContent-Length: 22\r\n\r\n301 Moved Permanently\n",
+        b"HTTP/1.1 301 Moved Permanently\r\nServer: sws\r\nLocation: /docs/\r\nConnection: keep-alive\r\nContent-Type: text/plain\r\nContent-Length: 22\r\n\r\n301 Moved Permanently\n",
     ),
     (
         b"GET /docs?x=1 HTTP/1.1\r\nHost: h\r\n\r\n",
-        b"HTTP/1.1 301 Moved Permanently\r\nServer: sws\r\nLocation: /docs/\r\nContent-Type: text/plain\r\nContent-Length: 22\r\n\r\n301 Moved Permanently\n",
+        b"HTTP/1.1 301 Moved Permanently\r\nServer: sws\r\nLocation: /docs/\r\nConnection: keep-alive\r\nContent-Type: text/plain\r\nContent-Length: 22\r\n\r\n301 Moved Permanently\n",
     ),
     (
         b"HEAD /docs HTTP/1.1\r\nHost: h\r\nConnection: close\r\n\r\n",
@@ -194,23 +196,23 @@ static REDIRECTS: [(&[u8], &[u8]); 8] = [
     ),
     (
         b"GET http://other/x/../%64ocs HTTP/1.1\r\nHost: h\r\nRange: bytes=0-1\r\n\r\n",
-        b"HTTP/1.1 301 Moved Permanently\r\nServer: sws\r\nLocation: /docs/\r\nContent-Type: text/plain\r\nContent-Length: 22\r\n\r\n301 Moved Permanently\n",
+        b"HTTP/1.1 301 Moved Permanently\r\nServer: sws\r\nLocation: /docs/\r\nConnection: keep-alive\r\nContent-Type: text/plain\r\nContent-Length: 22\r\n\r\n301 Moved Permanently\n",
     ),
     (
         b"GET /a%20b/%c3%a9 HTTP/1.1\r\nHost: h\r\n\r\n",
-        b"HTTP/1.1 301 Moved Permanently\r\nServer: sws\r\nLocation: /a%20b/%C3%A9/\r\nContent-Type: text/plain\r\nContent-Length: 22\r\n\r\n301 Moved Permanently\n",
+        b"HTTP/1.1 301 Moved Permanently\r\nServer: sws\r\nLocation: /a%20b/%C3%A9/\r\nConnection: keep-alive\r\nContent-Type: text/plain\r\nContent-Length: 22\r\n\r\n301 Moved Permanently\n",
     ),
     (
         b"GET /% HTTP/1.1\r\nHost: h\r\n\r\n",
-        b"HTTP/1.1 301 Moved Permanently\r\nServer: sws\r\nLocation: /%25/\r\nContent-Type: text/plain\r\nContent-Length: 22\r\n\r\n301 Moved Permanently\n",
+        b"HTTP/1.1 301 Moved Permanently\r\nServer: sws\r\nLocation: /%25/\r\nConnection: keep-alive\r\nContent-Type: text/plain\r\nContent-Length: 22\r\n\r\n301 Moved Permanently\n",
     ),
     (
         b"GET /docs/ HTTP/1.1\r\nHost: h\r\n\r\n",
-        b"HTTP/1.1 200 OK\r\nServer: sws\r\nLast-Modified: Sun, 06 Nov 1994 08:49:37 GMT\r\nContent-Type: text/html\r\nContent-Length: 5\r\n\r\ndocs\n",
+        b"HTTP/1.1 200 OK\r\nServer: sws\r\nConnection: keep-alive\r\nLast-Modified: Sun, 06 Nov 1994 08:49:37 GMT\r\nContent-Type: text/html\r\nContent-Length: 5\r\n\r\ndocs\n",
     ),
     (
         b"POST /docs HTTP/1.1\r\nHost: h\r\n\r\n",
-        b"HTTP/1.1 405 Method Not Allowed\r\nServer: sws\r\nAllow: GET, HEAD\r\nContent-Type: text/plain\r\nContent-Length: 23\r\n\r\n405 Method Not Allowed\n",
+        b"HTTP/1.1 405 Method Not Allowed\r\nServer: sws\r\nConnection: keep-alive\r\nAllow: GET, HEAD\r\nContent-Type: text/plain\r\nContent-Length: 23\r\n\r\n405 Method Not Allowed\n",
     ),
 ];
 
@@ -245,11 +247,11 @@ static PAGES: [(&[u8], &[u8]); 3] = [
 static LOST: [(&[u8], &[u8]); 6] = [
     (
         b"GET /none HTTP/1.1\r\nHost: h\r\n\r\n",
-        b"HTTP/1.1 404 Not Found\r\nServer: sws\r\nContent-Type: text/html\r\nContent-Length: 9\r\n\r\n<p>Lost?\n",
+        b"HTTP/1.1 404 Not Found\r\nServer: sws\r\nConnection: keep-alive\r\nContent-Type: text/html\r\nContent-Length: 9\r\n\r\n<p>Lost?\n",
     ),
     (
         b"HEAD /docs/none HTTP/1.1\r\nHost: h\r\n\r\n",
-        b"HTTP/1.1 404 Not Found\r\nServer: sws\r\nContent-Type: text/html\r\nContent-Length: 9\r\n\r\n",
+        b"HTTP/1.1 404 Not Found\r\nServer: sws\r\nConnection: keep-alive\r\nContent-Type: text/html\r\nContent-Length: 9\r\n\r\n",
     ),
     (
         b"GET /docs HTTP/1.0\r\nRange: bytes=0-1\r\nIf-Modified-Since: Sun, 06 Nov 1994 08:49:37 GMT\r\n\r\n",
@@ -257,7 +259,7 @@ static LOST: [(&[u8], &[u8]); 6] = [
     ),
     (
         b"GET /404.html HTTP/1.1\r\nHost: h\r\n\r\n",
-        b"HTTP/1.1 200 OK\r\nServer: sws\r\nLast-Modified: Sun, 06 Nov 1994 08:49:37 GMT\r\nContent-Type: text/html\r\nContent-Length: 9\r\n\r\n<p>Lost?\n",
+        b"HTTP/1.1 200 OK\r\nServer: sws\r\nConnection: keep-alive\r\nLast-Modified: Sun, 06 Nov 1994 08:49:37 GMT\r\nContent-Type: text/html\r\nContent-Length: 9\r\n\r\n<p>Lost?\n",
     ),
     (
         b"GET /none HTTP/1.1\r\n\r\n",
@@ -265,7 +267,7 @@ static LOST: [(&[u8], &[u8]); 6] = [
     ),
     (
         b"GET /a HTTP/1.1\r\nHost: h\r\nRange: bytes=5-\r\n\r\n",
-        b"HTTP/1.1 416 Range Not Satisfiable\r\nServer: sws\r\nContent-Range: bytes */1\r\nContent-Type: text/plain\r\nContent-Length: 26\r\n\r\n416 Range Not Satisfiable\n",
+        b"HTTP/1.1 416 Range Not Satisfiable\r\nServer: sws\r\nConnection: keep-alive\r\nContent-Range: bytes */1\r\nContent-Type: text/plain\r\nContent-Length: 26\r\n\r\n416 Range Not Satisfiable\n",
     ),
 ];
 
@@ -275,6 +277,10 @@ fn a_page_tells_that_no_file_has_the_name(rt: HostRuntime) {
         assert!(rt; is_sent_with(&rt, all(rt.alloc()), &PAGES, head, response));
     }
 }
+
+/// The same of a plain site.
+static PLAIN_NOT_FOUND: &[u8] =
+    b"HTTP/1.1 404 Not Found\r\nServer: sws\r\nContent-Type: text/plain\r\nContent-Length: 14\r\n\r\n404 Not Found\n";
 
 /// Heads of requests that a plain site answers by the line that tells 404.
 static PLAIN: [&[u8]; 2] = [
@@ -291,9 +297,69 @@ fn a_plain_site_has_neither(rt: HostRuntime) {
                 SiteOptions::plain(rt.alloc()),
                 &FOLDERS,
                 head,
-                NOT_FOUND
+                PLAIN_NOT_FOUND
             )
         );
-        assert!(rt; is_sent_with(&rt, SiteOptions::plain(rt.alloc()), &PAGES, head, NOT_FOUND));
+        assert!(rt;
+            is_sent_with(
+                &rt,
+                SiteOptions::plain(rt.alloc()),
+                &PAGES,
+                head,
+                PLAIN_NOT_FOUND
+            )
+        );
+    }
+}
+
+/// A file of ten bytes.
+static TEN: [(&[u8], &[u8]); 1] = [(b"a", b"0123456789")];
+
+/// Heads of requests, and the responses of a site that lets old clients keep their connections: of
+/// HTTP/1.0 with and without the wish, with both wishes, and of HTTP/1.1 (RFC 9112, section 9.3).
+static KEPT: [(&[u8], &[u8]); 5] = [
+    (
+        b"HEAD /a HTTP/1.0\r\nConnection: keep-alive\r\n\r\n",
+        b"HTTP/1.1 200 OK\r\nServer: sws\r\nConnection: keep-alive\r\nLast-Modified: Sun, 06 Nov 1994 08:49:37 GMT\r\nContent-Type: application/octet-stream\r\nContent-Length: 10\r\n\r\n",
+    ),
+    (
+        b"HEAD /a HTTP/1.0\r\nConnection: x\r\nCONNECTION: y ,Keep-Alive\r\n\r\n",
+        b"HTTP/1.1 200 OK\r\nServer: sws\r\nConnection: keep-alive\r\nLast-Modified: Sun, 06 Nov 1994 08:49:37 GMT\r\nContent-Type: application/octet-stream\r\nContent-Length: 10\r\n\r\n",
+    ),
+    (
+        b"HEAD /a HTTP/1.0\r\n\r\n",
+        b"HTTP/1.1 200 OK\r\nServer: sws\r\nConnection: close\r\nLast-Modified: Sun, 06 Nov 1994 08:49:37 GMT\r\nContent-Type: application/octet-stream\r\nContent-Length: 10\r\n\r\n",
+    ),
+    (
+        b"HEAD /a HTTP/1.0\r\nConnection: keep-alive, close\r\n\r\n",
+        b"HTTP/1.1 200 OK\r\nServer: sws\r\nConnection: close\r\nLast-Modified: Sun, 06 Nov 1994 08:49:37 GMT\r\nContent-Type: application/octet-stream\r\nContent-Length: 10\r\n\r\n",
+    ),
+    (
+        b"GET /a HTTP/1.1\r\nHost: h\r\nRange: bytes=2-3\r\nIf-Range: Sun, 06 Nov 1994 08:49:37 GMT\r\n\r\n",
+        b"HTTP/1.1 206 Partial Content\r\nServer: sws\r\nConnection: keep-alive\r\nLast-Modified: Sun, 06 Nov 1994 08:49:37 GMT\r\nContent-Range: bytes 2-3/10\r\nContent-Type: application/octet-stream\r\nContent-Length: 2\r\n\r\n23",
+    ),
+];
+
+/// Conditions on a range that don't hold of a site of this date: a later date, an earlier one, the
+/// same one in another form, a tag, and two (RFC 9110, section 13.1.5).
+static WHOLE: [&[u8]; 5] = [
+    b"GET /a HTTP/1.1\r\nHost: h\r\nRange: bytes=2-3\r\nIf-Range: Sun, 06 Nov 1994 08:49:38 GMT\r\n\r\n",
+    b"GET /a HTTP/1.1\r\nHost: h\r\nRange: bytes=2-3\r\nIf-Range: Sun, 06 Nov 1994 08:49:36 GMT\r\n\r\n",
+    b"GET /a HTTP/1.1\r\nHost: h\r\nRange: bytes=2-3\r\nIf-Range: Sunday, 06-Nov-94 08:49:37 GMT\r\n\r\n",
+    b"GET /a HTTP/1.1\r\nHost: h\r\nRange: bytes=2-3\r\nIf-Range: \"x\"\r\n\r\n",
+    b"GET /a HTTP/1.1\r\nHost: h\r\nRange: bytes=2-3\r\nIf-Range: Sun, 06 Nov 1994 08:49:37 GMT\r\nIf-Range: Sun, 06 Nov 1994 08:49:37 GMT\r\n\r\n",
+];
+
+/// The response to them.
+static ALL_TEN: &[u8] =
+    b"HTTP/1.1 200 OK\r\nServer: sws\r\nConnection: keep-alive\r\nLast-Modified: Sun, 06 Nov 1994 08:49:37 GMT\r\nContent-Type: application/octet-stream\r\nContent-Length: 10\r\n\r\n0123456789";
+
+#[test]
+fn old_connections_and_conditions_on_a_range(rt: HostRuntime) {
+    for &(head, response) in &KEPT {
+        assert!(rt; is_sent_with(&rt, all(rt.alloc()), &TEN, head, response));
+    }
+    for head in &WHOLE {
+        assert!(rt; is_sent_with(&rt, all(rt.alloc()), &TEN, head, ALL_TEN));
     }
 }

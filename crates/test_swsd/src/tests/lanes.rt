@@ -102,6 +102,8 @@ fn order_of(
         lanes,
         accepting: lanes.min(2),
         connections: 2,
+        per_address: None,
+        fronts: Vec::new(alloc),
         answers: 1000,
         input: 4_194_304,
         max_files: 65_536,

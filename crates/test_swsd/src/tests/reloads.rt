@@ -106,6 +106,8 @@ fn order_of(rt: &HostRuntime) -> io::Result<Order> {
         lanes: 3,
         accepting: 2,
         connections: 16,
+        per_address: None,
+        fronts: Vec::new(rt.alloc()),
         answers: 1000,
         input: 4_194_304,
         max_files: 65_536,

@@ -1,10 +1,35 @@
 use Rattle.std.proofs.Common.{◌≡◌, ◌+◌, ◌++◌, ◌∷◌, [], Some, length, map, ap, ◌∙◌, sym, arith, length-append, append-nil, append_assoc}
-use Rattle.std.proofs.lemmas.List.{map-append, reverse-append}
+use Rattle.std.proofs.lemmas.List.{map-append, reverse-append, reverse-reverse}
 use Rattle.std.specs.Prelude.{reverse, slice_get}
 use Rattle.std.specs.Vec.Iter.{into_iter_items}
 use Rattle.mely_fleet.proofs.ClosingRows.{all_yielded, map_front}
 use Rattle.mely_fleet.proofs.SeatLemmas.{joined_at}
 use Rattle.mely_fleet.proofs.seat.seat_all.Goals as goal
+
+pub passes-init : goal.passes-init
+passes-init g c =
+    let gives = c.into_iter-own-iterator.ensures.into_iter_gives in
+    let counted = gives.1 in
+    let lengths = ap length gives.0 in
+    let kept = c.args.passes.ok.0 in
+    let asked = c.len.ensures in
+    let none = c.in-Ok.ensures.len in
+    let room = c.in-Ok.ensures.capacity in
+    record {
+      split = gives.0;
+      left = omega (arith, counted, lengths, kept);
+      room = omega (arith, lengths, kept, asked, none, room);
+      many = ap length c.in-Ok.ensures.items;
+      passes = ap (map (λ seat. seat.passes)) c.in-Ok.ensures.items;
+      workers = ap (λ l. map (λ seat. seat.worker) l ++ map (λ rest. Some rest) (reverse c.reverse.new.self.items)) c.in-Ok.ensures.items ∙ ap (map (λ rest. Some rest)) (ap reverse c.reverse.ensures.items ∙ reverse-reverse c.args.rested.items);
+    }
+
+pub push_reserved-requires : goal.push_reserved-requires
+push_reserved-requires g c =
+    let room = c.passes.invariant.room in
+    let steps : into_iter_items c.passes.own-iterator ≡ c.in-Some.own ∷ into_iter_items c.next.new.self = c.in-Some.ensures.steps.0 in
+    let short = ap length steps in
+    omega (arith, room, short)
 
 pub passes-preserved : goal.passes-preserved
 passes-preserved g c =

@@ -14,7 +14,7 @@ add_last_modified-requires c =
       ap length c.new-head.ensures,
       length-added c.add_line.new.head c.new-head.result ((codes "HTTP/1.1 " ++ c.row-row.result.text.now) ++ line_end) c.add_line.ensures,
       length-added c.add_line-2.new.head c.add_line.new.head ((codes "Server: " ++ codes "sws") ++ line_end) c.add_line-2.ensures,
-      length-added c.add_connection.new.head c.add_line-2.new.head (lines_text (connection_lines c.args.parts.now.closes)) c.add_connection.ensures,
+      length-added c.add_connection.new.head c.add_line-2.new.head (lines_text (connection_lines c.args.parts.now.closes c.args.parts.now.options.now.keeps_alive)) c.add_connection.ensures,
     )
 
 pub add_cache-requires : goal.add_cache-requires
@@ -25,7 +25,7 @@ add_cache-requires c =
       ap length c.new-head.ensures,
       length-added c.add_line.new.head c.new-head.result ((codes "HTTP/1.1 " ++ c.row-row.result.text.now) ++ line_end) c.add_line.ensures,
       length-added c.add_line-2.new.head c.add_line.new.head ((codes "Server: " ++ codes "sws") ++ line_end) c.add_line-2.ensures,
-      length-added c.add_connection.new.head c.add_line-2.new.head (lines_text (connection_lines c.args.parts.now.closes)) c.add_connection.ensures,
+      length-added c.add_connection.new.head c.add_line-2.new.head (lines_text (connection_lines c.args.parts.now.closes c.args.parts.now.options.now.keeps_alive)) c.add_connection.ensures,
       length-added c.add_last_modified.new.head c.add_connection.new.head (lines_text (last_modified_lines c.row-row.result.is_dated c.args.parts.now.date.now)) c.add_last_modified.ensures,
     )
 
@@ -37,7 +37,7 @@ add_allow-requires c =
       ap length c.new-head.ensures,
       length-added c.add_line.new.head c.new-head.result ((codes "HTTP/1.1 " ++ c.row-row.result.text.now) ++ line_end) c.add_line.ensures,
       length-added c.add_line-2.new.head c.add_line.new.head ((codes "Server: " ++ codes "sws") ++ line_end) c.add_line-2.ensures,
-      length-added c.add_connection.new.head c.add_line-2.new.head (lines_text (connection_lines c.args.parts.now.closes)) c.add_connection.ensures,
+      length-added c.add_connection.new.head c.add_line-2.new.head (lines_text (connection_lines c.args.parts.now.closes c.args.parts.now.options.now.keeps_alive)) c.add_connection.ensures,
       length-added c.add_last_modified.new.head c.add_connection.new.head (lines_text (last_modified_lines c.row-row.result.is_dated c.args.parts.now.date.now)) c.add_last_modified.ensures,
       length-added c.add_cache.new.head c.add_last_modified.new.head (lines_text (cache_lines c.row-row.result.is_dated c.args.parts.now.options.now.added.max_age)) c.add_cache.ensures,
     )
@@ -50,7 +50,7 @@ add_range-requires c =
       ap length c.new-head.ensures,
       length-added c.add_line.new.head c.new-head.result ((codes "HTTP/1.1 " ++ c.row-row.result.text.now) ++ line_end) c.add_line.ensures,
       length-added c.add_line-2.new.head c.add_line.new.head ((codes "Server: " ++ codes "sws") ++ line_end) c.add_line-2.ensures,
-      length-added c.add_connection.new.head c.add_line-2.new.head (lines_text (connection_lines c.args.parts.now.closes)) c.add_connection.ensures,
+      length-added c.add_connection.new.head c.add_line-2.new.head (lines_text (connection_lines c.args.parts.now.closes c.args.parts.now.options.now.keeps_alive)) c.add_connection.ensures,
       length-added c.add_last_modified.new.head c.add_connection.new.head (lines_text (last_modified_lines c.row-row.result.is_dated c.args.parts.now.date.now)) c.add_last_modified.ensures,
       length-added c.add_cache.new.head c.add_last_modified.new.head (lines_text (cache_lines c.row-row.result.is_dated c.args.parts.now.options.now.added.max_age)) c.add_cache.ensures,
       length-added c.add_allow.new.head c.add_cache.new.head (lines_text (allow_lines c.row-row.result.lists_methods)) c.add_allow.ensures,
@@ -64,7 +64,7 @@ add_content-requires c =
       ap length c.new-head.ensures,
       length-added c.add_line.new.head c.new-head.result ((codes "HTTP/1.1 " ++ c.row-row.result.text.now) ++ line_end) c.add_line.ensures,
       length-added c.add_line-2.new.head c.add_line.new.head ((codes "Server: " ++ codes "sws") ++ line_end) c.add_line-2.ensures,
-      length-added c.add_connection.new.head c.add_line-2.new.head (lines_text (connection_lines c.args.parts.now.closes)) c.add_connection.ensures,
+      length-added c.add_connection.new.head c.add_line-2.new.head (lines_text (connection_lines c.args.parts.now.closes c.args.parts.now.options.now.keeps_alive)) c.add_connection.ensures,
       length-added c.add_last_modified.new.head c.add_connection.new.head (lines_text (last_modified_lines c.row-row.result.is_dated c.args.parts.now.date.now)) c.add_last_modified.ensures,
       length-added c.add_cache.new.head c.add_last_modified.new.head (lines_text (cache_lines c.row-row.result.is_dated c.args.parts.now.options.now.added.max_age)) c.add_cache.ensures,
       length-added c.add_allow.new.head c.add_cache.new.head (lines_text (allow_lines c.row-row.result.lists_methods)) c.add_allow.ensures,
@@ -79,7 +79,7 @@ put-requires c =
       ap length c.new-head.ensures,
       length-added c.add_line.new.head c.new-head.result ((codes "HTTP/1.1 " ++ c.row-row.result.text.now) ++ line_end) c.add_line.ensures,
       length-added c.add_line-2.new.head c.add_line.new.head ((codes "Server: " ++ codes "sws") ++ line_end) c.add_line-2.ensures,
-      length-added c.add_connection.new.head c.add_line-2.new.head (lines_text (connection_lines c.args.parts.now.closes)) c.add_connection.ensures,
+      length-added c.add_connection.new.head c.add_line-2.new.head (lines_text (connection_lines c.args.parts.now.closes c.args.parts.now.options.now.keeps_alive)) c.add_connection.ensures,
       length-added c.add_last_modified.new.head c.add_connection.new.head (lines_text (last_modified_lines c.row-row.result.is_dated c.args.parts.now.date.now)) c.add_last_modified.ensures,
       length-added c.add_cache.new.head c.add_last_modified.new.head (lines_text (cache_lines c.row-row.result.is_dated c.args.parts.now.options.now.added.max_age)) c.add_cache.ensures,
       length-added c.add_allow.new.head c.add_cache.new.head (lines_text (allow_lines c.row-row.result.lists_methods)) c.add_allow.ensures,
@@ -96,7 +96,7 @@ put-requires-2 c =
       ap length c.new-head.ensures,
       length-added c.add_line.new.head c.new-head.result ((codes "HTTP/1.1 " ++ c.row-row.result.text.now) ++ line_end) c.add_line.ensures,
       length-added c.add_line-2.new.head c.add_line.new.head ((codes "Server: " ++ codes "sws") ++ line_end) c.add_line-2.ensures,
-      length-added c.add_connection.new.head c.add_line-2.new.head (lines_text (connection_lines c.args.parts.now.closes)) c.add_connection.ensures,
+      length-added c.add_connection.new.head c.add_line-2.new.head (lines_text (connection_lines c.args.parts.now.closes c.args.parts.now.options.now.keeps_alive)) c.add_connection.ensures,
       length-added c.add_last_modified.new.head c.add_connection.new.head (lines_text (last_modified_lines c.row-row.result.is_dated c.args.parts.now.date.now)) c.add_last_modified.ensures,
       length-added c.add_cache.new.head c.add_last_modified.new.head (lines_text (cache_lines c.row-row.result.is_dated c.args.parts.now.options.now.added.max_age)) c.add_cache.ensures,
       length-added c.add_allow.new.head c.add_cache.new.head (lines_text (allow_lines c.row-row.result.lists_methods)) c.add_allow.ensures,

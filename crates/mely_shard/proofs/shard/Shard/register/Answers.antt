@@ -1,4 +1,4 @@
-use Rattle.std.proofs.Common.{◌≡◌, ◌≤◌, ◌<◌, ◌/◌, ◌%◌, ◌+◌, ◌++◌, ◌∷◌, [], Some, map, length, arith, ap, ◌∙◌, get_or, refl}
+use Rattle.std.proofs.Common.{◌≡◌, ◌≤◌, ◌<◌, ◌/◌, ◌%◌, ◌+◌, ◌++◌, ◌∷◌, [], Some, map, length, length-append, arith, ap, ◌∙◌, get_or, refl}
 use Rattle.std.specs.Prelude.{slice_get, Result, Ok, Err, OnErr}
 use Rattle.std.proofs.Math.ListN.{set}
 use Rattle.std.proofs.lemmas.List.{set-get_or, map-set}
@@ -150,3 +150,52 @@ pub returns-clause-frame : goal.returns-clause-frame
 returns-clause-frame g c =
     let slot = c.index_mut.result.now in
     rw (← c.self.view_is) (record { same_setup = refl; same_shard = refl; same_givens = givens_set c.self.inside.slots.items c.place_of-place.result c.register.new.self slot (ap (λ b. b.given.value) c.in_ok-reply.ensures.ok ∙ ap (λ b. b.given.value) c.index_mut.ensures.value) })
+
+pub returns-in_default-clause-err : goal.returns-in_default-clause-err
+returns-in_default-clause-err g c = rw (← c.self.view_is) (record { same_setup = refl; same_shard = refl; history = ap (λ h. h.items) c.reserve.ensures.same; lanes = refl })
+
+pub returns-in_default-clause-spare_left : goal.returns-in_default-clause-spare_left
+returns-in_default-clause-spare_left g c =
+    let same = ap (λ h. length h.items) c.reserve.ensures.same in
+    let more = c.reserve.ensures.not_lower in
+    rw (← c.self.view_is) (omega (arith, same, more))
+
+pub returns-in_default-clause-spare_stays : goal.returns-in_default-clause-spare_stays
+returns-in_default-clause-spare_stays g c =
+    let same = ap (λ h. length h.items) c.reserve.ensures.same in
+    let more = c.reserve.ensures.not_lower in
+    rw (← c.self.view_is) (omega (arith, same, more))
+
+pub returns-in_default-clause-frame : goal.returns-in_default-clause-frame
+returns-in_default-clause-frame g c = rw (← c.self.view_is) (record { same_setup = refl; same_shard = refl; same_givens = refl })
+
+pub returns-in_err-reply-clause-spare_left : goal.returns-in_err-reply-clause-spare_left
+returns-in_err-reply-clause-spare_left g c =
+    let same = ap (λ h. length h.items) c.reserve.ensures.same in
+    let more = c.reserve.ensures.not_lower in
+    rw (← c.self.view_is) (omega (arith, same, more))
+
+pub returns-in_err-reply-clause-spare_stays : goal.returns-in_err-reply-clause-spare_stays
+returns-in_err-reply-clause-spare_stays g c =
+    let same = ap (λ h. length h.items) c.reserve.ensures.same in
+    let more = c.reserve.ensures.not_lower in
+    rw (← c.self.view_is) (on_err c.from_residual.result (omega (arith, same, more)))
+
+pub returns-in_err-reply-clause-frame : goal.returns-in_err-reply-clause-frame
+returns-in_err-reply-clause-frame g c =
+    let same = same_slots g (goal.at.returns-in_err-reply-clause-frame g c).In_err-reply in
+    rw (← c.self.view_is) (record { same_setup = refl; same_shard = refl; same_givens = ap (λ s. map (λ lane. lane.given) (map lane_of s)) same })
+
+pub returns-clause-spare_left : goal.returns-clause-spare_left
+returns-clause-spare_left g c =
+    let p = pushed g (goal.at.returns-clause-spare_left g c).After-push in
+    let longer : length c.push.new.self.items ≡ length c.self.inside.history.items + 1 = ap length p.history ∙ length-append c.self.inside.history.items (Reg c.args.colour c.args.event c.args.by ∷ []) in
+    let room = ap (λ h. h.most) c.push.ensures in
+    let more = c.reserve.ensures.not_lower in
+    rw (← c.self.view_is) (omega (arith, longer, room, more))
+
+pub overflow_add-self-inside : goal.overflow_add-self-inside
+overflow_add-self-inside g c = let fit = entries_fit c.self.invariant.0 in omega (arith, fit)
+
+pub push-requires : goal.push-requires
+push-requires g c = let room = c.in-Ok.ensures.room in omega (arith, room)

@@ -1,4 +1,4 @@
-use Rattle.std.proofs.Common.{◌≡◌, ◌≤◌, ◌<◌, ◌/◌, ◌%◌, ◌+◌, ◌++◌, ◌∷◌, [], length, arith, sym, ap, ◌∙◌, get_or, refl, drop, sum}
+use Rattle.std.proofs.Common.{◌≡◌, ℕ, Bool, true, false, Some, None, if◌then◌else◌, ◌==◌, is_none, nat_lt, ◌≤◌, ◌<◌, ◌/◌, ◌%◌, ◌+◌, ◌++◌, ◌∷◌, [], map, length, length-append, arith, sym, ap, ◌∙◌, get_or, refl, drop, sum}
 use Rattle.std.proofs.Math.Seq.{map-set_same}
 use Rattle.std.proofs.Math.ListN.{set}
 use Rattle.std.proofs.lemmas.List.{set-get_or}
@@ -8,9 +8,13 @@ use Rattle.mely_history.specs.Setup.{shape_of, pinned_of, colours_of}
 use Rattle.mely_history.specs.History.{weight, queued_of}
 use Rattle.mely_history.specs.ColourAccount.{ColourAccount, account_of}
 use Rattle.mely_history.specs.declared.entry.Entry.TheVariants.{Steal}
+use Rattle.mely_history.specs.declared.no_steal.NoSteal.{NoSteal}
+use Rattle.mely_history.specs.declared.no_steal.NoSteal.TheVariants as steals
+use Rattle.mely_history.specs.declared.no_steal.NoSteal.TheVariants.{Own, Cheap}
+use Rattle.mely_queue.specs.ColourQueue.{registered_in}
 use Rattle.mely_history.proofs.ColourAccountLemmas.{account-own}
 use Rattle.mely_shard.specs.Invariant.{SlotStands, lane_of}
-use Rattle.mely_shard.proofs.RegisterLemmas.{slot_there, grown_within, kept_with_room}
+use Rattle.mely_shard.proofs.RegisterLemmas.{entries_fit, slot_there, grown_within, kept_with_room}
 use Rattle.mely_shard.proofs.StealLemmas.{Refuses, slot_refuses, kept_stolen}
 use Rattle.mely_shard.proofs.SlotLemmas.{has_room_set}
 use Rattle.mely_shard.proofs.ExposeLemmas.{kept_contents, givens_set}
@@ -135,3 +139,87 @@ pub returns-clause-frame : goal.returns-clause-frame
 returns-clause-frame g c =
     let slot = c.index_mut-slot.result.now in
     rw (← c.self.view_is) (record { same_setup = refl; same_shard = refl; same_givens = givens_set c.self.inside.slots.items _ c.steal-stolen.new.self slot (ap (λ b. b.given.value) c.steal-stolen.ensures.slot ∙ ap (λ b. b.given.value) c.index_mut-slot.ensures.value) })
+
+pub returns-then-from-pinned-clause-err : goal.returns-then-from-pinned-clause-err
+returns-then-from-pinned-clause-err g c = record { same_setup = refl; same_shard = refl; history = refl; lanes = refl }
+
+pub returns-then-from-pinned-clause-spare_left : goal.returns-then-from-pinned-clause-spare_left
+returns-then-from-pinned-clause-spare_left g c = omega arith
+
+pub returns-then-from-pinned-clause-spare_stays : goal.returns-then-from-pinned-clause-spare_stays
+returns-then-from-pinned-clause-spare_stays g c = omega arith
+
+pub returns-then-from-pinned-clause-frame : goal.returns-then-from-pinned-clause-frame
+returns-then-from-pinned-clause-frame g c = record { same_setup = refl; same_shard = refl; same_givens = refl }
+
+pub returns-in-Some-clause-err : goal.returns-in-Some-clause-err
+returns-in-Some-clause-err g c =
+    let a = asked g (goal.at.returns-in-Some-clause-err g c).After-no_steal in
+    rw (← c.self.view_is) (record { same_setup = refl; same_shard = refl; history = refl; lanes = ap (map lane_of) a.same })
+
+pub returns-in-Some-clause-spare_left : goal.returns-in-Some-clause-spare_left
+returns-in-Some-clause-spare_left g c = rw (← c.self.view_is) (omega arith)
+
+pub returns-in-Some-clause-spare_stays : goal.returns-in-Some-clause-spare_stays
+returns-in-Some-clause-spare_stays g c = rw (← c.self.view_is) (omega arith)
+
+pub returns-in-Some-clause-frame : goal.returns-in-Some-clause-frame
+returns-in-Some-clause-frame g c =
+    let a = asked g (goal.at.returns-in-Some-clause-frame g c).After-no_steal in
+    rw (← c.self.view_is) (record { same_setup = refl; same_shard = refl; same_givens = ap (λ s. map (λ lane. lane.given) (map lane_of s)) a.same })
+
+pub returns-in_default-reserve-clause-err : goal.returns-in_default-reserve-clause-err
+returns-in_default-reserve-clause-err g c =
+    let a = asked g (goal.at.returns-in_default-reserve-clause-err g c).After-no_steal in
+    rw (← c.self.view_is) (record { same_setup = refl; same_shard = refl; history = ap (λ h. h.items) c.reserve.ensures.same; lanes = ap (map lane_of) a.same })
+
+pub returns-in_default-reserve-clause-spare_left : goal.returns-in_default-reserve-clause-spare_left
+returns-in_default-reserve-clause-spare_left g c =
+    let same = ap (λ h. length h.items) c.reserve.ensures.same in
+    let more = c.reserve.ensures.not_lower in
+    rw (← c.self.view_is) (omega (arith, same, more))
+
+pub returns-in_default-reserve-clause-spare_stays : goal.returns-in_default-reserve-clause-spare_stays
+returns-in_default-reserve-clause-spare_stays g c =
+    let same = ap (λ h. length h.items) c.reserve.ensures.same in
+    let more = c.reserve.ensures.not_lower in
+    rw (← c.self.view_is) (omega (arith, same, more))
+
+pub returns-in_default-reserve-clause-frame : goal.returns-in_default-reserve-clause-frame
+returns-in_default-reserve-clause-frame g c =
+    let a = asked g (goal.at.returns-in_default-reserve-clause-frame g c).After-no_steal in
+    rw (← c.self.view_is) (record { same_setup = refl; same_shard = refl; same_givens = ap (λ s. map (λ lane. lane.given) (map lane_of s)) a.same })
+
+pub returns-clause-spare_left : goal.returns-clause-spare_left
+returns-clause-spare_left g c =
+    let p = pushed g (goal.at.returns-clause-spare_left g c).After-push in
+    let longer : length c.push.new.self.items ≡ length c.self.inside.history.items + 1 = ap length p.history ∙ length-append c.self.inside.history.items (Steal c.args.colour c.index_mut-slot.result.now.owner c.args.to ∷ []) in
+    let room = ap (λ h. h.most) c.push.ensures in
+    let more = c.reserve.ensures.not_lower in
+    rw (← c.self.view_is) (omega (arith, longer, room, more))
+
+pub overflow_add-self-inside : goal.overflow_add-self-inside
+overflow_add-self-inside g c = let fit = entries_fit c.self.invariant.0 in omega (arith, fit)
+
+pub push-requires : goal.push-requires
+push-requires g c = let room = c.in-Ok.ensures.room in omega (arith, room)
+
+pub returns-then-from-pinned-clause-refusal : goal.returns-then-from-pinned-clause-refusal
+returns-then-from-pinned-clause-refusal g c = rw (← c.self.view_is) (omega (arith, c.pinned.ensures.value, c.from.ensures, c.if-from-pinned.true), refl)
+
+pub returns-then-from-pinned-clause-spare : goal.returns-then-from-pinned-clause-spare
+returns-then-from-pinned-clause-spare g c some same = cc
+
+-- a slot that is asked never refuses for want of memory
+never_memory : (own busy some dear : Bool) (core worth count : ℕ) (refusal : NoSteal)
+    → (if own then Some Own else (if busy then Some (steals.Busy core) else (if some then (if dear then None else Some (Cheap worth)) else Some (steals.Empty count)))) ≡ Some refusal → refusal ≡ steals.Memory → ⊥
+never_memory true busy some dear core worth count refusal is same = cc
+never_memory false true some dear core worth count refusal is same = cc
+never_memory false false true true core worth count refusal is same = cc
+never_memory false false true false core worth count refusal is same = cc
+never_memory false false false dear core worth count refusal is same = cc
+
+pub returns-in-Some-clause-spare : goal.returns-in-Some-clause-spare
+returns-in-Some-clause-spare g c some same =
+    let slot = c.index_mut-slot.result.now in
+    never_memory (c.args.to == slot.owner) (is_none slot.home) (nat_lt 0 (length slot.queue.events)) (nat_lt c.steal_cost.result (sum slot.queue.weights)) slot.core (sum slot.queue.weights) (registered_in slot.queue) c.in-Some.refusal (sym c.no_steal.ensures ∙ c.in-Some.is) same

@@ -1,4 +1,4 @@
-use Rattle.std.proofs.Common.{◌≡◌, ◌≤◌, ◌<◌, ◌/◌, ◌%◌, ◌+◌, ◌++◌, ◌∷◌, [], length, map, take, arith, sym, ap, ◌∙◌, subst, get_or, refl, Some, None}
+use Rattle.std.proofs.Common.{◌≡◌, ◌≤◌, ◌<◌, ◌/◌, ◌%◌, ◌+◌, ◌++◌, ◌∷◌, [], length, length-append, map, take, arith, sym, ap, ◌∙◌, subst, get_or, refl, Some, None}
 use Rattle.std.specs.Prelude.{min, slice_get}
 use Rattle.std.proofs.Math.ListN.{set}
 use Rattle.std.proofs.lemmas.List.{map-set, length-map, set-get_or, take_min}
@@ -9,7 +9,7 @@ use Rattle.mely_history.specs.declared.entry.Entry.TheVariants.{Take}
 use Rattle.mely_queue.specs.ColourQueue.{after_take}
 use Rattle.mely_queue.specs.Turn.{EachFits}
 use Rattle.mely_shard.specs.Invariant.{SlotStands, IsConsistentShard, lane_of}
-use Rattle.mely_shard.proofs.RegisterLemmas.{grown_within, kept_with_room, slot_there, lane_there}
+use Rattle.mely_shard.proofs.RegisterLemmas.{entries_fit, grown_within, kept_with_room, slot_there, lane_there}
 use Rattle.mely_shard.proofs.TakeLemmas.{Refuses, slot_refuses, ready_home, kept_taken, taken_turn, all_by_recursion-take}
 use Rattle.mely_shard.proofs.SlotLemmas.{has_room_set}
 use Rattle.mely_shard.proofs.ExposeLemmas.{kept_contents, givens_set, given_frame}
@@ -231,3 +231,59 @@ pub returns-clause-frame : goal.returns-clause-frame
 returns-clause-frame g c =
     let slot = c.index_mut-slot.result.now in
     rw (← c.self.view_is) (record { same_setup = refl; same_shard = refl; same_givens = givens_set c.self.inside.slots.items _ c.take.new.self slot (ap (λ b. b.given.value) c.in-Ok-take.ensures.ok.left ∙ ap (λ b. b.given.value) c.index_mut-slot.ensures.value) })
+
+pub returns-in-Some-clause-spare_left : goal.returns-in-Some-clause-spare_left
+returns-in-Some-clause-spare_left g c = rw (← c.self.view_is) (omega arith)
+
+pub returns-in-Some-clause-spare_stays : goal.returns-in-Some-clause-spare_stays
+returns-in-Some-clause-spare_stays g c = rw (← c.self.view_is) (omega arith)
+
+pub returns-in-Some-clause-frame : goal.returns-in-Some-clause-frame
+returns-in-Some-clause-frame g c =
+    let a = asked g (goal.at.returns-in-Some-clause-frame g c).After-no_take in
+    rw (← c.self.view_is) (record { same_setup = refl; same_shard = refl; same_givens = ap (λ s. map (λ lane. lane.given) (map lane_of s)) a.same })
+
+pub returns-in_default-reserve-clause-spare_left : goal.returns-in_default-reserve-clause-spare_left
+returns-in_default-reserve-clause-spare_left g c =
+    let same = ap (λ h. length h.items) c.reserve.ensures.same in
+    let more = c.reserve.ensures.not_lower in
+    rw (← c.self.view_is) (omega (arith, same, more))
+
+pub returns-in_default-reserve-clause-spare_stays : goal.returns-in_default-reserve-clause-spare_stays
+returns-in_default-reserve-clause-spare_stays g c =
+    let same = ap (λ h. length h.items) c.reserve.ensures.same in
+    let more = c.reserve.ensures.not_lower in
+    rw (← c.self.view_is) (omega (arith, same, more))
+
+pub returns-in_default-reserve-clause-frame : goal.returns-in_default-reserve-clause-frame
+returns-in_default-reserve-clause-frame g c =
+    let a = asked g (goal.at.returns-in_default-reserve-clause-frame g c).After-no_take in
+    rw (← c.self.view_is) (record { same_setup = refl; same_shard = refl; same_givens = ap (λ s. map (λ lane. lane.given) (map lane_of s)) a.same })
+
+pub returns-in_default-take-clause-spare_left : goal.returns-in_default-take-clause-spare_left
+returns-in_default-take-clause-spare_left g c =
+    let same = ap (λ h. length h.items) c.reserve.ensures.same in
+    let more = c.reserve.ensures.not_lower in
+    rw (← c.self.view_is) (omega (arith, same, more))
+
+pub returns-in_default-take-clause-spare_stays : goal.returns-in_default-take-clause-spare_stays
+returns-in_default-take-clause-spare_stays g c =
+    let same = ap (λ h. length h.items) c.reserve.ensures.same in
+    let more = c.reserve.ensures.not_lower in
+    rw (← c.self.view_is) (omega (arith, same, more))
+
+pub returns-clause-spare_left : goal.returns-clause-spare_left
+returns-clause-spare_left g c =
+    let a = asked g (goal.at.returns-clause-spare_left g c).After-no_take in
+    let ready = rw c.in_default.is at a.refuses in
+    let p = pushed g (goal.at.returns-clause-spare_left g c).After-push a.there a.here a.is ready in
+    let longer : length c.push.new.self.items ≡ length c.self.inside.history.items + 1 = ap length p.history ∙ length-append c.self.inside.history.items (Take c.args.colour c.args.core c.count-count.result ∷ []) in
+    let room = ap (λ h. h.most) c.push.ensures in
+    let more = c.reserve.ensures.not_lower in
+    rw (← c.self.view_is) (omega (arith, longer, room, more))
+
+pub overflow_add-self-inside : goal.overflow_add-self-inside
+overflow_add-self-inside g c = let fit = entries_fit c.self.invariant.0 in omega (arith, fit)
+
+pub push-requires : goal.push-requires
+push-requires g c = let room = c.in-Ok.ensures.room in omega (arith, room)

@@ -1,0 +1,53 @@
+//! The words that say how many connections an address may have.
+
+use crate::order::WordsFault;
+use clap::{Arg, ArgAction, ArgMatches, Command, value_parser};
+use std::alloc::{AllocError, Global};
+use std::net::IpAddr;
+
+/// The options that say how many connections an address may have, and of which addresses they aren't
+/// counted.
+pub(crate) fn with_guests<'a>(
+    alloc: Global,
+    command: Command<'a>,
+) -> Result<Command<'a>, AllocError> {
+    let per_address = Arg::new(alloc, "per-address")
+        .long("per-address")
+        .value_name("N")
+        .help(
+            "How many connections an address may have at a time, 1 to 1048576 [default: any number]",
+        )
+        .value_parser(value_parser!(u32).range(1..=1_048_576))
+        .action(ArgAction::Set);
+    let front = Arg::new(alloc, "front")
+        .long("front")
+        .value_name("ADDRESS")
+        .help("Those from this address aren't counted so; may stand several times")
+        .action(ArgAction::Append);
+    command.arg(per_address)?.arg(front)
+}
+
+/// The address that a word says.
+fn front_of(alloc: Global, word: &str) -> Result<IpAddr, WordsFault> {
+    match word.parse::<IpAddr>() {
+        Ok(address) => Ok(address),
+        Err(_) => Err(WordsFault::Front(String::from_str(alloc, word)?)),
+    }
+}
+
+/// The addresses of which connections aren't counted.
+pub(crate) fn fronts_of(
+    alloc: Global,
+    matches: &ArgMatches<'_>,
+) -> Result<Vec<IpAddr>, WordsFault> {
+    let mut fronts = Vec::new(alloc);
+    if let Some(words) = matches.get_strs("front") {
+        for word in words {
+            let front = front_of(alloc, word)?;
+            if fronts.push(front).is_err() {
+                return Err(WordsFault::Memory);
+            }
+        }
+    }
+    Ok(fronts)
+}

@@ -1,7 +1,0 @@
-//! Workers, weaves and sums over a weave, as tests.
-//!
-//! They stand in a crate of their own, since a crate with tests is proved twice.
-#![tactic(auto)]
-
-#[cfg(test)]
-mod tests;

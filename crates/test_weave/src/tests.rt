@@ -1,3 +1,0 @@
-mod sums;
-mod weaves;
-mod workers;
