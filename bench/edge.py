@@ -440,15 +440,17 @@ def redirects(_):
     yield status == 0 and not wrong, f"{len(REDIRECTS)} targets, otherwise answered: {wrong[:3]} ({told})"
 
 
-# Words that add to responses; and what of each answer: a target, more lines of the request, its status, its type, and whether it may be kept.
+# Words that add to responses; and what of each answer: a target, more lines of the request, its status, its type, and for how long it may be kept.
 ADDED = ["--header", "X-Frame-Options: DENY", "--header", "Content-Security-Policy: default-src 'self'; img-src *", "--header", "Vary: Accept", "--header",
-         "vary: Origin", "--cache", "3600", "--type", "txt=text/plain; charset=utf-8", "--type", "log=text/x-log", "--type", "TXT=text/html"]
+         "vary: Origin", "--cache", ".css=86400", "--cache", "3600", "--cache", "ss=5", "--cache", "log=0", "--type", "txt=text/plain; charset=utf-8", "--type", "log=text/x-log", "--type", "TXT=text/html"]
 ADDED_LINES = [b"X-Frame-Options: DENY", b"Content-Security-Policy: default-src 'self'; img-src *", b"Vary: Accept", b"vary: Origin"]
 ADDED_TO = [
-    (b"/a.txt", b"", b"200", b"text/plain; charset=utf-8", True), (b"/a.txt", b"Range: bytes=1-2\r\n", b"206", b"text/plain; charset=utf-8", True),
-    (b"/a.txt", b"If-Modified-Since: Fri, 31 Dec 9999 23:59:59 GMT\r\n", b"304", None, True), (b"/a.txt", b"Range: bytes=10-\r\n", b"416", b"text/plain", False),
-    (b"/docs", b"", b"301", b"text/plain", False), (b"/none", b"", b"404", b"text/plain", False), (b"/b.log", b"", b"200", b"text/x-log", True),
-    (b"/c.css", b"", b"200", b"text/css", True), (b"/a.txt", b"Host: twice\r\n", b"400", b"text/plain", False),
+    (b"/a.txt", b"", b"200", b"text/plain; charset=utf-8", 3600), (b"/a.txt", b"Range: bytes=1-2\r\n", b"206", b"text/plain; charset=utf-8", 3600),
+    (b"/a.txt", b"If-Modified-Since: Fri, 31 Dec 9999 23:59:59 GMT\r\n", b"304", None, 3600), (b"/a.txt", b"Range: bytes=10-\r\n", b"416", b"text/plain", None),
+    (b"/docs", b"", b"301", b"text/plain", None), (b"/none", b"", b"404", b"text/plain", None), (b"/b.log", b"", b"200", b"text/x-log", 0),
+    (b"/c.css", b"", b"200", b"text/css", 86400), (b"/c.css", b"Range: bytes=1-2\r\n", b"206", b"text/css", 86400),
+    (b"/c.css", b"If-Modified-Since: Fri, 31 Dec 9999 23:59:59 GMT\r\n", b"304", None, 86400), (b"/none.css", b"", b"404", b"text/plain", None),
+    (b"/docs/", b"", b"200", b"text/html", 3600), (b"/a.txt", b"Host: twice\r\n", b"400", b"text/plain", None),
 ]
 
 # Words that are refused, and how what is said of them ends.
@@ -462,7 +464,11 @@ REFUSED = [
     (["--header", "X: " + "y" * 1020], "more than 1,024 bytes"), (["--header", "X: " + "y" * 500, "--header", "X: " + "y" * 520], "more than 1,024 bytes"),
     (["--type", "txt"], "expected an extension, '=' and a media type"), (["--type", ".txt=text/plain"], "its extension has more than letters and digits"),
     (["--type", "txt=text"], "with one parameter at most"), (["--type", "txt=text/plain\r\nX: y"], "with one parameter at most"),
-    (["--type", "txt=text/" + "x" * 76], "with one parameter at most"), (["--cache=-1"], ""), (["--cache", "2147483648"], "is not in 0..=2147483647"),
+    (["--type", "txt=text/" + "x" * 76], "with one parameter at most"), (["--cache=-1"], "expected seconds, 0 to 2147483647"),
+    (["--cache", "2147483648"], "expected seconds, 0 to 2147483647"), (["--cache", ".css=2147483648"], "expected seconds, 0 to 2147483647"),
+    (["--cache", ".css="], "expected seconds, 0 to 2147483647"), (["--cache", "=5"], "no name of a file has this end"),
+    (["--cache", "css/a=5"], "no name of a file has this end"), (["--cache", "a=5", "--cache", "a=5"], "have an age already"),
+    (["--cache", "5", "--cache", "5"], "have an age already"), ([word for n in range(65) for word in ("--cache", f".{n}=5")], "more than 64 ends"),
 ]
 
 
@@ -476,11 +482,11 @@ def additions(_):
             with open(os.path.join(folder, name), "wb") as file:
                 file.write(b"here")
         with Server(folder, *ADDED) as server:
-            for target, lines, code, media_type, is_kept in ADDED_TO:
+            for target, lines, code, media_type, age in ADDED_TO:
                 answer = server.ask(HEAD.replace(b"/a.txt", target).replace(b"\r\n\r\n", b"\r\n" + lines + b"\r\n"))
                 head = answer.partition(b"\r\n\r\n")[0].split(b"\r\n")
                 named = [line[14:] for line in head if line.startswith(b"Content-Type: ")]
-                kept = [line for line in head if line.startswith(b"Cache-Control:")] == ([b"Cache-Control: max-age=3600"] if is_kept else [])
+                kept = [line for line in head if line.startswith(b"Cache-Control:")] == ([] if age is None else [b"Cache-Control: max-age=%d" % age])
                 if not (head[0].startswith(b"HTTP/1.1 " + code) and head[-4:] == ADDED_LINES and kept and named == ([media_type] if media_type else [])):
                     wrong.append((target, lines, answer[:200]))
             status, told = server.end()

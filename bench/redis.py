@@ -7,6 +7,7 @@ and how it stops.
 What is expected is what Redis answers (https://redis.io/docs/latest/commands/), but for the limits, which are the program's own. Where `redis-server` is
 installed it is asked what can be compared too, and what both answer is compared byte by byte.
 """
+import itertools
 import os
 import shutil
 import socket
@@ -17,7 +18,7 @@ import threading
 import time
 
 FAULTS = []
-CONNECTIONS = 10
+CONNECTIONS = 11
 
 
 def command(*words):
@@ -67,8 +68,8 @@ class Client:
             return True
 
 
-def expect(what, got, want):
-    if got != want:
+def expect(what, got, want, within=0):
+    if got != want and not (within and abs(got - want) <= within):
         FAULTS.append(f"{what}: {str(got)[:90]}, and not {str(want)[:90]}")
 
 
@@ -77,7 +78,7 @@ TOO_LONG = "-ERR string exceeds maximum allowed size (proto-max-bulk-len)"
 ROWS = [
     ("PING", "+PONG"), ("ping hi", b"hi"), ("ECHO x", b"x"), ("GET k", None), ("SET k v", "+OK"), ("GET k", b"v"), ("SET k w NX", None), ("GET k", b"v"),
     ("SET k w XX", "+OK"), ("GET k", b"w"), ("SET k z get", b"w"), ("SET new 1 NX GET", None), ("GET new", b"1"), ("SET none 1 XX", None),
-    ("SET k 1 NX XX", "-ERR syntax error"), ("SET k 1 EX 5", "-ERR syntax error"), ("SETNX k q", 0), ("SETNX fresh q", 1), ("GETSET fresh p", b"q"),
+    ("SET k 1 NX XX", "-ERR syntax error"), ("SET k 1 EX", "-ERR syntax error"), ("SET k 1 EX 5 PX 5", "-ERR syntax error"), ("SETNX k q", 0), ("SETNX fresh q", 1), ("GETSET fresh p", b"q"),
     ("GETSET fresher p", None), ("EXISTS k", 1), ("DEL k", 1), ("DEL k", 0), ("EXISTS k", 0), ("INCR n", 1), ("INCRBY n 41", 42), ("DECR n", 41),
     ("DECRBY n 50", -9), ("INCRBY n -1", -10), ("GET n", b"-10"), (f"SET n {2**63 - 1}", "+OK"), ("INCR n", "-ERR increment or decrement would overflow"),
     (f"DECRBY n {-2**63}", "-ERR decrement would overflow"), ("GET n", b"%d" % (2**63 - 1)), (f"SET n {-2**63}", "+OK"),
@@ -94,6 +95,11 @@ SAME = """
 SET k v|GET k|SET k w NX|SET k w XX GET|SET k z NX XX|SETNX k q|GETSET k p|GETSET fresh p|STRLEN k|APPEND k more|INCR k|INCR n|DECRBY n 7|INCRBY n x
 MSET a 1 b two c 3|MGET a x b k|MGET a a|EXISTS a b b x|DEL a x c|DEL b|DEL b b|EXISTS a|EXISTS|DBSIZE|DBSIZE a|MSET a|MSET a 1 b|MSET|MGET|DEL
 MSET d 1 d 2|mget d d n|FLUSHALL now|FLUSHALL sync async|DBSIZE|FLUSHALL SYNC|DBSIZE|MGET d k|flushall async|FLUSHALL|SHUTDOWN soon
+SET e v EX 100|TTL e|SET e w|TTL e|SET e x PX 100000 NX|SET e x KEEPTTL|EXPIRE e 100|TTL e|SET e 5 KEEPTTL GET|INCR e|APPEND e 0|TTL e|PERSIST e|PERSIST e|TTL e
+GETSET e z|EXPIRE e 0|TTL e|PTTL e|EXPIRE e 5|PERSIST e|SETEX e 10 v|TTL e|SETEX e 0 v|SETEX e x v|PSETEX e -1 v|SETEX e 10|PSETEX e 100000 w|GET e|TTL e
+SET e v EX 0|SET e v PX -1|SET e v EX|SET e v EX x|SET e v EX 1 PX 1|SET e v KEEPTTL EX 1|SET e v EX 9223372036854775807|SET e v PX 9223372036854775807
+EXPIRE e 9223372036854775807|PEXPIRE none 9223372036854775807|EXPIRE e -9223372036854775808|PEXPIRE e x|PEXPIRE none 5|EXPIRE|EXPIRE e|TTL|TTL a b|PTTL
+SET e v PXAT 1|GET e|EXISTS e|SET e v EXAT 4000000000|PEXPIREAT e 1|GET e|SET e v|EXPIREAT e 1|EXISTS e|SET e v PX 100000 XX|SET e v EXAT x|SHUTDOWN SAVE soon
 ECHO|ECHO a b|GET a b|SET a|QUIT
 """
 BAD = [
@@ -144,6 +150,24 @@ def try_beside(port):
     still.socket.close()
 
 
+def try_times(port):
+    """Values that go: not before their time, and at once then, for each command."""
+    client, began = Client(port), time.monotonic()
+    expect("a short time", [client.ask("SET", f"gone{i}", i, "PX", 400) for i in range(64)], ["+OK"] * 64)
+    expect("a long time", (client.ask("SETEX", "stays", 100, 1), client.ask("TTL", "stays"), client.ask("INCR", "stays")), ("+OK", 100, 2))
+    here, took = client.ask("EXISTS", *[f"gone{i}" for i in range(64)]), time.monotonic() - began
+    expect("values before their time", here == 64 or took >= 0.4, True)
+    count = client.ask("DBSIZE")
+    time.sleep(0.5)
+    expect("values behind their time", client.ask("MGET", *[f"gone{i}" for i in range(64)]), [None] * 64)
+    expect("the keys that are counted", count - client.ask("DBSIZE") if took < 0.3 else 64, 64)
+    expect("a key that is set again", (client.ask("SET", "gone1", 5, "NX"), client.ask("INCR", "gone2"), client.ask("APPEND", "gone3", "x")), ("+OK", 1, 1))
+    expect("no time again", (client.ask("TTL", "gone1"), client.ask("PTTL", "gone2"), client.ask("DEL", "gone4"), client.ask("TTL", "gone5")), (-1, -1, 0, -2))
+    left = client.ask("PTTL", "stays")
+    expect("the time that is left", 90000 < left < 99600, True)
+    client.socket.close()
+
+
 def told(port, sent):
     """Returns all that is told to a client that sends this and then waits for the end."""
     with socket.create_connection(("127.0.0.1", port), timeout=10) as client:
@@ -191,9 +215,13 @@ def try_to_stop(program):
                 expect(f"{way}: the value before", client.ask("GET", "kept"), None if way == "the stop file" else b"1")
                 expect(f"{way}: a number", client.ask("INCR", "kept"), 1 if way == "the stop file" else 2)
                 if way == "SHUTDOWN":
+                    expect(f"{way}: the time that was kept", client.ask("TTL", "goes"), 4000000000 - round(time.time()), 1)
+                    expect(f"{way}: what wasn't kept", client.ask("EXISTS", "went"), 0)
                     client.socket.sendall(command("SHUTDOWN", "SAVE"))
                     expect(f"{way}: the end", client.ends(), True)
                 else:
+                    expect(f"{way}: times", (client.ask("SET", "goes", "late", "EXAT", 4000000000), client.ask("SET", "went", 1, "PX", 100)), ("+OK", "+OK"))
+                    time.sleep(0.2)
                     open(stop, "w").close()
                 began = time.monotonic()
                 said = one.communicate(timeout=20)[0]
@@ -206,7 +234,8 @@ def try_to_stop(program):
             if os.path.exists(stop):
                 os.remove(stop)
         with open(kept, "rb") as file:
-            expect("what is kept", file.read(), command("SET", "kept", "2") + command("QUIT"))
+            both = {command("SET", "kept", "2"), command("SET", "goes", "late", "PXAT", 4000000000000)}
+            expect("what is kept", file.read() in {b"".join(order) + command("QUIT") for order in itertools.permutations(both)}, True)
 
 
 def main():
@@ -218,6 +247,7 @@ def main():
         try_commands(port)
         try_faults(port)
         try_beside(port)
+        try_times(port)
         # The last one comes now, as none is cut for being slow before.
         Client(port).socket.close()
         expect("its last line", program.communicate(timeout=20)[0], f"{CONNECTIONS} connections were served, and 0 failed\n")

@@ -1,6 +1,8 @@
 mod FrameLemmas
 mod VerbLemmas
 mod ReplyLemmas
+mod SavedLemmas
+mod TimeLemmas
 mod NumberLemmas
 mod AskingLemmas
 mod PlanLemmas

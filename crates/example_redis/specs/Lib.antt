@@ -2,6 +2,7 @@ pub mod Frames
 pub mod Hearing
 pub mod Verbs
 pub mod Replies
+pub mod Lives
 pub mod Numbers
 pub mod Values
 pub mod Asking

@@ -32,6 +32,8 @@ text_of refusal.Overflow = codes "increment or decrement would overflow"
 text_of refusal.Decrement = codes "decrement would overflow"
 text_of refusal.LongKey = codes "key exceeds maximum allowed size"
 text_of refusal.LongValue = codes "string exceeds maximum allowed size (proto-max-bulk-len)"
+text_of (refusal.Time verb) =
+    codes "invalid expire time in '" ++ name_of verb ++ codes "' command"
 text_of (refusal.Protocol fault) = codes "Protocol error: " ++ text_of_fault fault
 text_of refusal.LongRequest = codes "Protocol error: too big request"
 
@@ -45,6 +47,11 @@ integer number = codes ":" ++ signed_decimal number ++ codes "\r\n"
 abbrev pub error : List ℕ → List ℕ
 error text = codes "-ERR " ++ text ++ codes "\r\n"
 
+-- what is true of each store: clients look here whether it is to be asked
+abbrev pub info : List ℕ
+info = codes "# Server\r\nredis_mode:standalone\r\n# Persistence\r\nloading:0\r\n"
+    ++ codes "# Replication\r\nrole:master\r\n# Cluster\r\ncluster_enabled:0\r\n"
+
 -- a reply that has no parts
 abbrev pub shown_reply : Reply → List ℕ
 shown_reply reply.Silence = []
@@ -53,6 +60,7 @@ shown_reply reply.Okay = codes "+OK\r\n"
 shown_reply reply.Pong = codes "+PONG\r\n"
 shown_reply reply.Nil = codes "$-1\r\n"
 shown_reply reply.NoItems = codes "*0\r\n"
+shown_reply reply.Info = bulk info
 shown_reply reply.Items = codes "*0\r\n"
 shown_reply reply.Total = codes ":0\r\n"
 shown_reply (reply.Count count) = integer (pos count)

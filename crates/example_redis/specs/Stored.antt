@@ -1,43 +1,62 @@
 -- What the store is, as a service.
-use Rattle.std.specs.Prelude.{◌≡◌, ◌≢◌, ℕ, Vec, List, [], Option, length}
+use Rattle.std.specs.Prelude.{◌≡◌, ◌≢◌, ℕ, Vec, List, [], Option, filter, length, max, not}
 use Rattle.std.specs.BTreeMap.{BTreeMap, get_by}
 use Rattle.std.specs.Cmp.Lexicographic.{slice_cmp}
 use Rattle.std.specs.Global.{Global}
 use Rattle.std.specs.Ordering.{nat_cmp}
+use Rattle.example_redis.specs.declared.life.Kept.{Kept}
 use Rattle.example_redis.specs.declared.reply.Reply.{Reply}
 use Rattle.example_redis.specs.declared.reply.Reply.TheVariants.{Count, Okay}
 use Rattle.example_redis.specs.declared.request.Sweep.{Sweep}
 use Rattle.example_redis.specs.declared.request.Sweep.TheVariants as sweep
+use Rattle.example_redis.specs.declared.request.Timed.{Timed}
+use Rattle.example_redis.specs.declared.store.Cell.{Cell}
+use Rattle.example_redis.specs.Lives.{Entry, entry_in, is_over, there_at}
 use Rattle.example_redis.specs.Replies.{shown_reply}
-use Rattle.example_redis.specs.Values.{Deed, IsCounted, Of, All, Wish, bytes_in, turn_of}
+use Rattle.example_redis.specs.Values.{Deed, IsCounted, Of, All, Wish, turn_of, wish_of}
 
 -- what a cell has under keys
 abbrev pub Store : Type 0
-Store = BTreeMap (Vec ℕ Global) (Vec ℕ Global)
+Store = BTreeMap (Vec ℕ Global) Kept
 
--- the value of a key, where it has one
-abbrev pub value_at : Store → List ℕ → Option (List ℕ)
-value_at store key = bytes_in (get_by (λ other. slice_cmp nat_cmp key other.items) store)
+-- the value of a key, where it has one, be its time over or not
+abbrev pub entry_at : Store → List ℕ → Option Entry
+entry_at store key = entry_in (get_by (λ other. slice_cmp nat_cmp key other.items) store)
+
+-- the value of a key as it is seen at a moment
+abbrev pub value_at : ℕ → Store → List ℕ → Option Entry
+value_at now store key = there_at now (entry_at store key)
 
 -- one key has this value then, where it has one, and all others have what they had
-pub record Puts (key : List ℕ) (value : Option (List ℕ)) (before after : Store) : Type 0 where
-  pub at_key : value_at after key ≡ value
-  pub others : (other : List ℕ) → other ≢ key → value_at after other ≡ value_at before other
+pub record Puts (key : List ℕ) (value : Option Entry) (before after : Store) : Type 0 where
+  pub at_key : entry_at after key ≡ value
+  pub others : (other : List ℕ) → other ≢ key → entry_at after other ≡ entry_at before other
 
--- A key is asked: its value is then as the turn has it, and so is the reply; no other key changes.
-pub record IsServed (key : List ℕ) (deed : Deed) (before after : Store) (answer : Reply)
+-- A key is asked at a moment: a value whose time is over then isn't there. Its value is as the turn
+-- has it, and so is the reply; no other key changes.
+pub record IsServed (now : ℕ) (key : List ℕ) (deed : Deed) (before after : Store) (answer : Reply)
     : Type 0 where
-  pub puts : Puts key (turn_of deed (value_at before key)).value before after
-  pub reply : shown_reply answer ≡ (turn_of deed (value_at before key)).reply
-  pub counted : IsCounted deed (value_at before key) answer
+  pub puts : Puts key (turn_of now deed (value_at now before key)).value before after
+  pub reply : shown_reply answer ≡ (turn_of now deed (value_at now before key)).reply
+  pub counted : IsCounted deed (value_at now before key) answer
 
--- DBSIZE and FLUSHALL, of one cell: its keys are counted, and stay; or there is none then
-abbrev pub IsSwept : Sweep → Store → Store → Reply → Type 0
-IsSwept sweep.Count before after answer =
-    (after ≡ before) × (answer ≡ Count (length before.entries))
-IsSwept sweep.Clear before after answer = (after.entries ≡ []) × (answer ≡ Okay)
+-- the keys that have a value at a moment, with it
+abbrev pub entries_there : ℕ → List (Vec ℕ Global × Kept) → List (Vec ℕ Global × Kept)
+entries_there now entries = filter (λ entry. not (is_over now entry.1.until)) entries
 
--- a step of a cell
-abbrev pub Grants : Wish → Store → Store → Reply → Type 0
-Grants (Of key deed) before after answer = IsServed key deed before after answer
-Grants (All sweep) before after answer = IsSwept sweep before after answer
+-- DBSIZE and FLUSHALL, of one cell: the keys that have a value are counted, and all stay; or there
+-- is none then
+abbrev pub IsSwept : ℕ → Sweep → Store → Store → Reply → Type 0
+IsSwept now sweep.Count before after answer =
+    (after ≡ before) × (answer ≡ Count (length (entries_there now before.entries)))
+IsSwept now sweep.Clear before after answer = (after.entries ≡ []) × (answer ≡ Okay)
+
+-- what is wished of a cell at a moment is done
+abbrev pub Grants : ℕ → Wish → Store → Store → Reply → Type 0
+Grants now (Of key deed) before after answer = IsServed now key deed before after answer
+Grants now (All sweep) before after answer = IsSwept now sweep before after answer
+
+-- A step of a cell: at the latest moment that it was told, so its time never goes back.
+pub record IsStep (timed : Timed) (before after : Cell) (answer : Reply) : Type 0 where
+  pub now : after.now ≡ max before.now timed.now
+  pub grants : Grants after.now (wish_of timed.request) before.values after.values answer

@@ -4,11 +4,23 @@ ghost use Rattle.example_redis.specs.declared.limits.TheConstants.{CELLS};
 
 use crate::over_tcp::Fault;
 use crate::saved::{load, no_cells, save};
-use crate::store::Values;
+use crate::store::Cell;
 use mely_net::{Part, take_cells};
 use std::fs::{self, File};
 use std::io::{self, ErrorKind, Write};
+use std::time::{SystemTime, UNIX_EPOCH};
 use sws_link::Link;
+
+/// The time, in milliseconds since 1970; 0 where the clock can't be read, so that no value goes.
+pub fn time_of(rt: &HostRuntime) -> u64 {
+    let Ok(now) = SystemTime::now(rt) else {
+        return 0;
+    };
+    match now.duration_since(UNIX_EPOCH) {
+        Ok(time) => u64::try_from(time.as_millis()).unwrap_or(u64::MAX),
+        Err(_) => 0,
+    }
+}
 
 /// Where the bytes of a file are written before they are put in its place.
 fn beside(rt: &HostRuntime, path: &str) -> io::Result<String> {
@@ -28,7 +40,7 @@ fn try_to_keep(rt: &HostRuntime, path: &str) -> io::Result<()> {
 /// # Errors
 ///
 /// As of [`Fault`]: also where no file can be written beside this one.
-pub fn begin_store(rt: &HostRuntime, file: &Option<String>) -> Result<Vec<Values>, Fault>
+pub fn begin_store(rt: &HostRuntime, file: &Option<String>) -> Result<Vec<Cell>, Fault>
     ensures { IfOk result (λ cells. length cells.items ≡ CELLS) }
 {
     let Some(path) = file else {
@@ -61,7 +73,7 @@ fn replace(rt: &HostRuntime, path: &str, bytes: &[u8]) -> io::Result<()> {
 pub fn keep<W: Drop, L: Link + Drop, Q: Drop, P: Drop>(
     rt: &HostRuntime,
     file: &Option<String>,
-    parts: Vec<Part<Values, W, L, Q, P>>,
+    parts: Vec<Part<Cell, W, L, Q, P>>,
 ) -> Result<(), Fault> {
     let Some(path) = file else {
         return Ok(());
@@ -69,7 +81,7 @@ pub fn keep<W: Drop, L: Link + Drop, Q: Drop, P: Drop>(
     let Ok(cells) = take_cells(rt.alloc(), parts) else {
         return Err(Fault::Memory);
     };
-    let bytes = save(rt.alloc(), cells.as_slice())?;
+    let bytes = save(rt.alloc(), time_of(rt), cells.as_slice())?;
     replace(rt, path.as_str(), bytes.as_slice()).map_err(Fault::File)
 }
 
@@ -82,7 +94,7 @@ pub fn keep<W: Drop, L: Link + Drop, Q: Drop, P: Drop>(
 pub fn keep_rest<W: Drop, L: Link + Drop, Q: Drop, P: Drop>(
     rt: &HostRuntime,
     file: &Option<String>,
-    parts: Vec<Option<Part<Values, W, L, Q, P>>>,
+    parts: Vec<Option<Part<Cell, W, L, Q, P>>>,
 ) -> Result<(), Fault> {
     let Some(path) = file else {
         return Ok(());

@@ -5,8 +5,8 @@ ghost use Rattle.mely_net.specs.Served.{HasServed};
 
 use crate::outside::Nothing;
 use crate::reply::Reply;
-use crate::request::Request;
-use crate::store::{Store, Values};
+use crate::request::Timed;
+use crate::store::{Cell, Store};
 use mely_actor::Ended;
 use mely_event::Memory;
 use mely_net::{Part, Service, serve};
@@ -16,7 +16,7 @@ use std::thread::Threads;
 use sws_link::{Link, LinkItem, MemLink, MemWorld};
 
 /// What a run over links in memory leaves.
-type Left = Ended<Part<Values, MemWorld, MemLink, Request, Reply>>;
+type Left = Ended<Part<Cell, MemWorld, MemLink, Timed, Reply>>;
 
 /// The link of a client that sends this at once, and takes 7 bytes at a time.
 ///
@@ -39,13 +39,16 @@ fn link_of(alloc: Global, sent: Vec<u8>) -> Result<MemLink, Memory>
 /// There was no memory.
 fn run<R: Threads + Wait + Sync>(rt: &R, alloc: Global, link: MemLink) -> Result<Left, Memory>
     requires { IsInitialMemLink link }
-    ensures { let rules = ⟦<Store<Nothing> as Service>⟧.rules_of record { outside = record {} } in
+    ensures { (store : Store Nothing) → let rules = ⟦<Store<Nothing> as Service>⟧.rules_of store in
         IfOk result (λ ended. HasServed rules ⟦<MemLink as Link>⟧ 1 ended.values.items) }
 {
     let mut links = Vec::new(alloc);
     links.push(link)?;
     let world = MemWorld::new(links, Vec::new(alloc));
-    serve(rt, alloc, 2, Store { outside: Nothing }, world)
+    let store = Store {
+        outside: Nothing::new(),
+    };
+    serve(rt, alloc, 2, store, world)
 }
 
 /// What a client is told that sends these bytes, and no more.

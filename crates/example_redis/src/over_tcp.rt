@@ -1,12 +1,12 @@
 //! The store over TCP.
 ghost use Rattle.example_redis.specs.Words.{IsInRange};
 
-use crate::keeping::{begin_store, keep, keep_rest};
+use crate::keeping::{begin_store, keep, keep_rest, time_of};
 use crate::outside::Outside;
 use crate::reply::Reply;
-use crate::request::Request;
+use crate::request::Timed;
 use crate::saved::Unsaved;
-use crate::store::{Store, Values};
+use crate::store::{Cell, Store};
 use crate::words::Listening;
 use mely_actor::Ended;
 use mely_event::Memory;
@@ -65,13 +65,18 @@ const LANES: usize = 3;
 
 const INSIDE: usize = 2;
 
-/// The store behind a door.
+/// The store behind a door, and the clock of this machine.
 #[derive(Drop)]
 struct Behind<'d> {
+    rt: &'d HostRuntime,
     door: &'d Door,
 }
 
 impl<'d> Outside for Behind<'d> {
+    fn now(&self) -> u64 {
+        time_of(self.rt)
+    }
+
     fn stop(&self) {
         self.door.close();
     }
@@ -139,7 +144,7 @@ pub fn serve_tcp<R: Threads + Wait + Sync>(
         Opened::Memory => return Err(Fault::Memory),
     }
     let store = Store {
-        outside: Behind { door: &door },
+        outside: Behind { rt, door: &door },
     };
     match serve_on(threads, rt.alloc(), words.workers, store, cells, world) {
         Ok(ended) => {
@@ -155,7 +160,7 @@ pub fn serve_tcp<R: Threads + Wait + Sync>(
 }
 
 /// What a run over sockets leaves.
-type Left<'d> = Ended<Part<Values, LaneWorld<'d>, TcpLink, Request, Reply>>;
+type Left<'d> = Ended<Part<Cell, LaneWorld<'d>, TcpLink, Timed, Reply>>;
 
 /// Says how many connections there were, and how many of them failed. Answers whether neither the
 /// network failed nor standard output. A world that was asked to stop ends as one does whose

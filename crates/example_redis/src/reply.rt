@@ -1,7 +1,9 @@
 //! What is replied.
 ghost use Rattle.std.specs.Fmt.{decimal};
 ghost use Rattle.std.specs.Prelude.{◌≡◌, ◌++◌, OnOk, codes, pos};
-ghost use Rattle.example_redis.specs.Replies.{bulk, count_in, error, integer, list_of, shown_byte, shown_reply, shown_with, text_of, text_of_fault, total_of};
+ghost use Rattle.example_redis.specs.Replies.{bulk, count_in, error, info, integer, list_of, shown_byte, shown_reply, shown_with, text_of, text_of_fault, total_of};
+ghost use Rattle.example_redis.specs.Verbs.{name_of};
+ghost use Rattle.example_redis.specs.declared.frame.Fault.TheVariants.{NoWord};
 
 use crate::frame::Fault;
 use crate::verb::Verb;
@@ -35,6 +37,9 @@ pub enum Refusal {
     /// The value would have too many.
     LongValue,
 
+    /// The command names a time at which no value can go.
+    Time(Verb),
+
     /// It is no request.
     Protocol(Fault),
 
@@ -58,6 +63,9 @@ pub enum Reply {
 
     /// A list without items.
     NoItems,
+
+    /// What the store is, in lines of a name and what it is.
+    Info,
 
     /// The list of its parts, which are what several cells reply.
     Items,
@@ -91,6 +99,15 @@ pub fn shown(byte: u8) -> u8
     }
 }
 
+/// Puts the words of a word that begins with this behind others.
+fn write_no_word(byte: u8, out: &mut Vec<u8>) -> Result<(), Memory>
+    ensures { OnOk result (out.new.items ≡ out.old.items ++ text_of_fault (NoWord byte)) }
+{
+    put(out, b"expected '$', got '")?;
+    out.push(shown(byte))?;
+    put(out, b"'")
+}
+
 /// Puts the words of a fault behind others.
 fn write_fault(fault: Fault, out: &mut Vec<u8>) -> Result<(), Memory>
     ensures { OnOk result (out.new.items ≡ out.old.items ++ text_of_fault fault) }
@@ -98,14 +115,20 @@ fn write_fault(fault: Fault, out: &mut Vec<u8>) -> Result<(), Memory>
     match fault {
         Fault::Count => put(out, b"invalid multibulk length"),
         Fault::Size => put(out, b"invalid bulk length"),
-        Fault::NoWord(byte) => {
-            put(out, b"expected '$', got '")?;
-            out.push(shown(byte))?;
-            put(out, b"'")
-        }
+        Fault::NoWord(byte) => write_no_word(byte, out),
         Fault::NoEnd => put(out, b"a word without its line end"),
         Fault::LongLine => put(out, b"too big inline request"),
     }
+}
+
+/// Puts words about a command, and its name, behind others.
+fn write_about(text: &[u8], verb: Verb, out: &mut Vec<u8>) -> Result<(), Memory>
+    ensures { OnOk result (out.new.items
+        ≡ out.old.items ++ (text.now ++ name_of verb ++ codes "' command")) }
+{
+    put(out, text)?;
+    put(out, verb.name())?;
+    put(out, b"' command")
 }
 
 /// Puts the words of a refusal behind others.
@@ -117,11 +140,7 @@ fn write_refusal(refusal: &Refusal, out: &mut Vec<u8>) -> Result<(), Memory>
             put(out, b"unknown command ")?;
             put(out, words.as_slice())
         }
-        Refusal::Arguments(verb) => {
-            put(out, b"wrong number of arguments for '")?;
-            put(out, verb.name())?;
-            put(out, b"' command")
-        }
+        Refusal::Arguments(verb) => write_about(b"wrong number of arguments for '", *verb, out),
         Refusal::Syntax => put(out, b"syntax error"),
         Refusal::NoNumber => put(out, b"value is not an integer or out of range"),
         Refusal::Overflow => put(out, b"increment or decrement would overflow"),
@@ -133,6 +152,7 @@ fn write_refusal(refusal: &Refusal, out: &mut Vec<u8>) -> Result<(), Memory>
                 b"string exceeds maximum allowed size (proto-max-bulk-len)",
             )
         }
+        Refusal::Time(verb) => write_about(b"invalid expire time in '", *verb, out),
         Refusal::Protocol(fault) => {
             put(out, b"Protocol error: ")?;
             write_fault(*fault, out)
@@ -151,6 +171,16 @@ pub fn write_value(value: &[u8], out: &mut Vec<u8>) -> Result<(), Memory>
     put(out, b"\r\n")?;
     put(out, value)?;
     put(out, b"\r\n")
+}
+
+/// Puts what the store is behind others.
+fn write_info(out: &mut Vec<u8>) -> Result<(), Memory>
+    ensures { OnOk result (out.new.items ≡ out.old.items ++ bulk info) }
+{
+    write_value(
+        b"# Server\r\nredis_mode:standalone\r\n# Persistence\r\nloading:0\r\n# Replication\r\nrole:master\r\n# Cluster\r\ncluster_enabled:0\r\n",
+        out,
+    )
 }
 
 /// Puts a number behind others.
@@ -193,6 +223,7 @@ fn write_one(reply: &Reply, out: &mut Vec<u8>) -> Result<(), Memory>
         Reply::Nil => put(out, b"$-1\r\n"),
         Reply::NoItems | Reply::Items => put(out, b"*0\r\n"),
         Reply::Total => put(out, b":0\r\n"),
+        Reply::Info => write_info(out),
         Reply::Count(count) => write_count(*count, out),
         Reply::Number(number) => write_number(*number, out),
         Reply::Value(value) => write_value(value.as_slice(), out),

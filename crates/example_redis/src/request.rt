@@ -1,5 +1,7 @@
 //! What a cell is asked.
 
+use crate::life::Term;
+
 /// On what a value is set.
 #[derive(Clone, Copy)]
 pub enum When {
@@ -25,6 +27,23 @@ pub enum Tells {
     Count,
 }
 
+/// How a value is set.
+#[derive(Clone, Copy)]
+pub struct How {
+    pub when: When,
+    pub tells: Tells,
+
+    /// How long it is there.
+    pub term: Term,
+}
+
+/// A value is set as one is without options.
+pub const PLAIN: How = How {
+    when: When::Always,
+    tells: Tells::Done,
+    term: Term::Ever,
+};
+
 /// What is asked of the value of a key.
 #[derive(Clone, Copy)]
 pub enum Question {
@@ -36,13 +55,19 @@ pub enum Question {
 
     /// How many bytes it has.
     Length,
+
+    /// For how many seconds it is still there.
+    Seconds,
+
+    /// For how many milliseconds.
+    Millis,
 }
 
 /// What becomes of the value of a key.
 #[derive(Drop)]
 pub enum Change {
     /// It is this one.
-    Set(Vec<u8>, When, Tells),
+    Set(Vec<u8>, How),
 
     /// There is none.
     Delete,
@@ -52,6 +77,12 @@ pub enum Change {
 
     /// These bytes come behind it.
     Append(Vec<u8>),
+
+    /// It is there for so long.
+    Expire(Term),
+
+    /// It doesn't go any more.
+    Persist,
 }
 
 /// What is done with the value of a key.
@@ -79,4 +110,12 @@ pub enum Request {
 
     /// Something is done with all its keys.
     All(Sweep),
+}
+
+/// What a cell is asked, and when that was.
+#[derive(Drop)]
+pub struct Timed {
+    /// In milliseconds since 1970.
+    pub now: u64,
+    pub request: Request,
 }

@@ -2,11 +2,12 @@
 ghost use Rattle.std.specs.Prelude.{◌≡◌, IfOk, map};
 ghost use Rattle.example_redis.specs.Asking.{asks_in, asks_of_all, asks_of_keys, asks_of_pairs, cell_of, deed_of_each, has_long_key, have_long_key, is_flush, plan_at_all, plan_in, plan_of_several, wants_several};
 ghost use Rattle.example_redis.specs.Values.{Of, deed_of, wish_of};
+ghost use Rattle.example_redis.specs.declared.reply.Reply.TheVariants as reply;
 
 use crate::asking::{Ask, cell_of_key, refuse, wrong};
 use crate::limits::{CELLS, MOST_KEY};
 use crate::reply::{Refusal, Reply};
-use crate::request::{Action, Change, Question, Request, Sweep, Tells, When};
+use crate::request::{Action, Change, PLAIN, Question, Request, Sweep};
 use crate::verb::{Verb, is_same_word};
 use mely_event::Memory;
 use mely_net::Asked;
@@ -73,7 +74,7 @@ fn ask_pairs(alloc: Global, words: Vec<Vec<u8>>) -> Result<Asks, Memory>
         let Some(value) = left.pop_front() else {
             return Ok(asks);
         };
-        let change = Change::Set(value, When::Always, Tells::Done);
+        let change = Change::Set(value, PLAIN);
         asks.push(ask_of(key, Action::Make(change)))?;
     }
     Ok(asks)
@@ -136,6 +137,30 @@ fn may_flush(words: &[Vec<u8>]) -> bool
     }
 }
 
+/// Each of several keys is asked.
+fn ask_each(alloc: Global, verb: Verb, keys: Vec<Vec<u8>>, reply: Reply) -> Result<Ask, Memory>
+    ensures { IfOk result (λ asked. plan_in asked
+        ≡ plan_at_all (asks_of_keys (deed_of_each verb) (map (λ word. word.items) keys.items))
+        reply) }
+{
+    Ok(at_all(ask_keys(alloc, verb, keys)?, reply))
+}
+
+/// Each of several keys is set.
+fn ask_to_set_each(alloc: Global, words: Vec<Vec<u8>>) -> Result<Ask, Memory>
+    ensures { IfOk result (λ asked. plan_in asked
+        ≡ plan_at_all (asks_of_pairs (map (λ word. word.items) words.items)) reply.Okay) }
+{
+    Ok(at_all(ask_pairs(alloc, words)?, Reply::Okay))
+}
+
+/// All keys are asked.
+fn ask_cells(alloc: Global, sweep: Sweep, reply: Reply) -> Result<Ask, Memory>
+    ensures { IfOk result (λ asked. plan_in asked ≡ plan_at_all (asks_of_all sweep) reply) }
+{
+    Ok(at_all(ask_all(alloc, sweep)?, reply))
+}
+
 /// What a command asks that asks several cells.
 ///
 /// # Errors
@@ -146,13 +171,13 @@ pub fn ask_several(alloc: Global, verb: Verb, words: Vec<Vec<u8>>) -> Result<Ask
         ≡ plan_of_several verb (map (λ word. word.items) words.items)) }
 {
     match verb {
-        Verb::MGet => Ok(at_all(ask_keys(alloc, verb, words)?, Reply::Items)),
-        Verb::MSet => Ok(at_all(ask_pairs(alloc, words)?, Reply::Okay)),
-        Verb::Del => Ok(at_all(ask_keys(alloc, verb, words)?, Reply::Total)),
-        Verb::Exists => Ok(at_all(ask_keys(alloc, verb, words)?, Reply::Total)),
-        Verb::DbSize => Ok(at_all(ask_all(alloc, Sweep::Count)?, Reply::Total)),
+        Verb::MGet => ask_each(alloc, verb, words, Reply::Items),
+        Verb::MSet => ask_to_set_each(alloc, words),
+        Verb::Del => ask_each(alloc, verb, words, Reply::Total),
+        Verb::Exists => ask_each(alloc, verb, words, Reply::Total),
+        Verb::DbSize => ask_cells(alloc, Sweep::Count, Reply::Total),
         Verb::FlushAll if may_flush(words.as_slice()) => {
-            Ok(at_all(ask_all(alloc, Sweep::Clear)?, Reply::Okay))
+            ask_cells(alloc, Sweep::Clear, Reply::Okay)
         }
         Verb::FlushAll => Ok(refuse(Refusal::Syntax)),
         _ => Ok(wrong(verb)),

@@ -12,12 +12,12 @@ ghost use Rattle.mely_app.specs.Unfinished.{IfNotStarted, IfCutShort, RanInPart,
 
 use crate::initial::{Initial, initial_states};
 use crate::run_error::{RunError, Unfinished};
-use mely_crew::run_crew;
+use mely_crew::run_open;
 use mely_event::{Colour, Event, Fits, Trail};
 use mely_history::{History, Setup};
 use mely_tally::{the_parts_are_what_the_weave_had, what_is_left_in_the_parts_fits};
 use mely_weave::{Drained, WeaveParts};
-use mely_worker::{App, OpenGate};
+use mely_worker::App;
 use std::alloc::Global;
 use std::sync::Wait;
 use std::thread::Threads;
@@ -140,15 +140,7 @@ pub fn run_states<
         (colour, event, load) states.items (histories_left left) left.states.items
         (waiting_left left) left.refused.items) }
 {
-    let ran = run_crew(
-        rt,
-        alloc,
-        setup,
-        states,
-        (colour, event, load),
-        app,
-        &OpenGate,
-    );
+    let ran = run_open(rt, alloc, setup, states, (colour, event, load), app);
     let (weave, drained) = match ran {
         Ok(ran) => ran,
         Err(back) => return Err(RunError::NotStarted(back.load)),

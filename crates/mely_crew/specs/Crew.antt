@@ -1,5 +1,5 @@
 -- What a whole run on threads has registered, and what it ran behind its gate.
-use Rattle.std.specs.Prelude.{◌≡◌, ◌≤◌, ◌++◌, ◌∷◌, ℕ, List, Option, Some, slice_get}
+use Rattle.std.specs.Prelude.{◌≡◌, ◌≤◌, ◌+◌, ◌++◌, ◌∷◌, ℕ, List, [], Option, Some, length, slice_get}
 use Rattle.mely_event.specs.declared.colour.Colour.{Colour}
 use Rattle.mely_event.specs.declared.event.Event.{Event}
 use Rattle.mely_history.specs.declared.entry.Entry.{Entry}
@@ -15,7 +15,40 @@ use Rattle.mely_worker.specs.declared.app.App.{Ghosts as AppWords}
 use Rattle.mely_worker.specs.Gated.{behind}
 use Rattle.mely_event.specs.declared.trail.Trail.{Ghosts as TrailWords}
 use Rattle.mely_chain.specs.WeaveTold.{IsTold}
+use Rattle.mely_note.specs.declared.note.Note.{Note}
+use Rattle.mely_worker.specs.IdleWorker.{IdleWorkerState}
+use Rattle.mely_weave.specs.Dealing.{AtEach}
+use Rattle.mely_kept.specs.declared.kept_shard.ShardFrame.{ShardFrame}
+use Rattle.mely_kept.specs.Frames.{shard_frame}
+use Rattle.mely_kept.specs.KeptShard.{KeptShardState}
+use Rattle.mely_fleet.specs.declared.fleet.FleetOf.{FleetOf}
+use Rattle.mely_fleet.specs.declared.passes.PassesOf.{PassesOf}
+use Rattle.mely_fleet.specs.declared.seat.SeatOf.{SeatOf}
+use Rattle.mely_fleet.specs.Calls.{front_in}
+use Rattle.mely_fleet.specs.Fleets.{frame_in, given_in}
+use Rattle.mely_fleet.specs.Rows.{fronts}
+use Rattle.mely_fleet.specs.Seats.{IsFresh, IsOutsider, IsSeatOf}
 use Rattle.mely_crew.specs.Settling.{MakesSome}
+
+-- a fleet of a setup and these states, with a seat for each core and the passes of one other caller;
+-- all workers are free, and nothing was seen yet
+pub record IsManned {S P F : Type 0} {g : _} (frame_of : S → F)
+    (fits : F → Colour → Event → Option P → Type 0) (setup : Setup) (states : List S)
+    (fleet : FleetOf (KeptShardState S P) (Note S P) (ShardFrame S F))
+    (home : List (SeatOf (KeptShardState S P) (Option (IdleWorkerState P)) (Note S P)
+    (ShardFrame S F) g))
+    (other : PassesOf (KeptShardState S P) (Note S P) (ShardFrame S F) g) : Type 0 where
+  pub of_setup : fleet.setup ≡ setup
+  pub framed : (state : S) → slice_get states 0 ≡ Some state
+      → frame_of state ≡ frame_in (shard_frame frame_of) fleet
+  pub given : (c : Colour) → given_in (shard_frame frame_of) fleet c ≡ slice_get states c.0
+  pub callers : fleet.passes ≡ (shape_of setup).cores + 1
+  pub cores : length home ≡ (shape_of setup).cores
+  pub seats : AtEach (λ n seat. IsSeatOf frame_of fits fleet n seat.passes seat.worker) home
+  pub fresh : AtEach (λ n seat. IsFresh seat.passes seat.worker) home
+  pub outside : IsOutsider (shard_frame frame_of) fleet other
+  pub numbered : other.number ≡ (shape_of setup).cores
+  pub unseen : (k : ℕ) → front_in (fronts other.shards.items) k ≡ []
 
 -- the history has the registration of the event on the colour by a caller that is no core
 pub record IsRegisteredIn (setup : Setup) (colour : Colour) (event : Event)

@@ -1,5 +1,5 @@
 //! A whole run: a fleet with a thread for each core, from the states to the weave that they leave.
-ghost use Rattle.std.specs.Prelude.{◌≡◌, ◌<◌, ◌≤◌, ◌+◌, ◌∷◌, [], ℕ, IfOk, IfErr, Some, length, slice_get, vec_capacity};
+ghost use Rattle.std.specs.Prelude.{◌≡◌, ◌≤◌, ◌+◌, ◌∷◌, [], IfOk, IfErr, Some, slice_get, vec_capacity};
 ghost use Rattle.mely_history.specs.Setup.{shape_of};
 ghost use Rattle.mely_weave.specs.Dealing.{AtEach};
 ghost use Rattle.mely_weave.specs.Drains.{AllFree, HistoriesAreDrained, SomeHalted};
@@ -7,45 +7,118 @@ ghost use Rattle.mely_weave.specs.Making.{AreInitial};
 ghost use Rattle.mely_weave.specs.StandsWell.{StandsWell};
 ghost use Rattle.mely_worker.specs.Access.{FitsSetup};
 ghost use Rattle.mely_worker.specs.Conditions.{AppServes};
-ghost use Rattle.mely_fleet.specs.Fleets.{frame_in, given_in};
+ghost use Rattle.mely_fleet.specs.Fleets.{frame_in};
 ghost use Rattle.mely_kept.specs.Frames.{shard_frame};
 ghost use Rattle.mely_tally.specs.Account.{IsAccounted};
 ghost use Rattle.mely_chain.specs.WeaveTold.{IsTold};
-ghost use Rattle.mely_fleet.specs.Calls.{front_in};
-ghost use Rattle.mely_fleet.specs.Rows.{fronts};
-ghost use Rattle.mely_fleet.specs.Seats.{IsSeatOf, IsOutsider, IsFresh, HasMade, HaveMade};
+ghost use Rattle.mely_fleet.specs.Seats.{IsSeatOf, HasMade, HaveMade};
 ghost use Rattle.mely_worker.specs.Gated.{behind};
-ghost use Rattle.mely_crew.specs.Crew.{IsRegistered, RanBehind};
+ghost use Rattle.mely_crew.specs.Crew.{IsManned, IsRegistered, RanBehind};
 
 use crate::settling::settle;
 use mely_event::{Colour, Event, Fits, Kept, Memory, Trail, Unregistered};
 use mely_fleet::{Fleet, FleetOf, KeptShard, PassesOf, Room, RoomOf, Seat, SeatOf};
 use mely_history::Setup;
 use mely_weave::{Drained, Weave};
-use mely_worker::{App, Gate, IdleWorker, Worker};
+use mely_worker::{App, Gate, IdleWorker, OpenGate, Worker};
 use std::alloc::Global;
 use std::sync::Wait;
 use std::sync::atomic::{AtomicBool, Ordering};
 use std::thread;
 use std::thread::Threads;
 
-/// A fleet with a seat for each core and the passes of one other caller, and room for all that
-/// closing it takes. `V` is what the locks of the shards keep.
-struct CrewOf<S: Fits<P>, P, V: Kept> {
+/// A fleet with a seat for each core and the passes of one other caller. `V` is what the locks of the
+/// shards keep.
+#[derive(Drop)]
+struct MannedOf<V: Kept, P> {
     fleet: FleetOf<V>,
     seats: Vec<SeatOf<V, Option<IdleWorker<P>>>>,
     outside: PassesOf<V>,
+}
+
+/// A fleet with a seat for each core and the passes of one other caller.
+type Manned<S, P> = MannedOf<KeptShard<S, P>, P>;
+
+/// Room for all that closing a crew takes, but for its workers. `V` is what the locks of the shards
+/// keep.
+#[derive(Drop)]
+struct CrewRoomOf<S: Fits<P>, P, V: Kept> {
     room: RoomOf<S, P, V>,
 
-    /// Empty lists with room for all callers, and for a worker of each core.
+    /// Empty lists with room for all callers, and for a worker at rest of each core.
     outsiders: Vec<PassesOf<V>>,
     rested: Vec<IdleWorker<P>>,
+}
+
+/// Room for all that closing a crew takes, but for its workers.
+type CrewRoom<S, P> = CrewRoomOf<S, P, KeptShard<S, P>>;
+
+/// A manned fleet, and room for all that closing it takes. `V` is what the locks of the shards keep.
+struct CrewOf<S: Fits<P>, P, V: Kept> {
+    manned: MannedOf<V, P>,
+    spare: CrewRoomOf<S, P, V>,
+
+    /// An empty list with room for a worker of each core.
     workers: Vec<Worker<S, P>>,
 }
 
-/// A fleet with a seat for each core and the passes of one other caller, and room for
-/// all that closing it takes.
+/// A manned fleet, and room for all that closing it takes.
 type Crew<S, P> = CrewOf<S, P, KeptShard<S, P>>;
+
+/// Room for a crew of this setup.
+///
+/// # Errors
+///
+/// There was no memory.
+fn make_room<S: Fits<P> + Drop, P: Drop>(
+    alloc: Global,
+    setup: &Setup,
+) -> Result<CrewRoom<S, P>, Memory>
+    ensures room { IfOk result (λ spare. (spare.room.setup ≡ setup.now)
+        × (spare.room.passes ≡ (shape_of setup.now).cores + 1)) }
+    ensures outsiders { IfOk result (λ spare. (spare.outsiders.items ≡ [])
+        × ((shape_of setup.now).cores + 1 ≤ vec_capacity spare.outsiders)) }
+    ensures rested { IfOk result (λ spare. (spare.rested.items ≡ [])
+        × ((shape_of setup.now).cores ≤ vec_capacity spare.rested)) }
+{
+    let cores = setup.cores() as usize;
+    let outsiders = Vec::with_capacity(alloc, cores + 1)?;
+    let rested = Vec::with_capacity(alloc, cores)?;
+    let room = Room::new(alloc, setup, 1)?;
+    Ok(CrewRoomOf {
+        room,
+        outsiders,
+        rested,
+    })
+}
+
+/// A fleet of these states, with a seat for each core and the passes of one other caller.
+///
+/// # Errors
+///
+/// There was no memory: the states are dropped.
+fn man_fleet<S: Fits<P> + Drop, P: Drop>(
+    alloc: Global,
+    setup: &Setup,
+    states: Vec<S>,
+) -> Result<Manned<S, P>, Memory>
+    requires first { AreInitial S.Trail setup.now states.items }
+    ensures { IfOk result (λ manned. IsManned S.frame_of S.fits_under setup.now states.items
+        manned.fleet manned.seats.items manned.outside) }
+{
+    let (fleet, mut passes) = Fleet::new(alloc, setup, states, 1)?;
+    let Some(outside) = passes.pop() else {
+        unreachable!()
+    };
+    let Ok(seats) = fleet.seats(alloc, passes) else {
+        return Err(Memory);
+    };
+    Ok(MannedOf {
+        fleet,
+        seats,
+        outside,
+    })
+}
 
 /// A crew for these states.
 ///
@@ -58,52 +131,23 @@ fn make_crew<S: Fits<P> + Drop, P: Drop>(
     states: Vec<S>,
 ) -> Result<Crew<S, P>, Memory>
     requires first { AreInitial S.Trail setup.now states.items }
-    ensures of_setup { IfOk result (λ crew. crew.fleet.setup ≡ setup.now) }
-    ensures framed { IfOk result (λ crew. (state : _) → slice_get states.items 0 ≡ Some state
-        → S.frame_of state ≡ frame_in (shard_frame S.frame_of) crew.fleet) }
-    ensures given { IfOk result (λ crew. (c : _)
-        → given_in (shard_frame S.frame_of) crew.fleet c ≡ slice_get states.items c.0) }
-    ensures callers { IfOk result (λ crew. crew.fleet.passes ≡ (shape_of setup.now).cores + 1) }
-    ensures cores { IfOk result (λ crew. length crew.seats.items ≡ (shape_of setup.now).cores) }
-    ensures seats { IfOk result (λ crew. AtEach
-        (λ n seat. IsSeatOf S.frame_of S.fits_under crew.fleet n seat.passes seat.worker)
-        crew.seats.items) }
-    ensures fresh { IfOk result (λ crew.
-        AtEach (λ n seat. IsFresh seat.passes seat.worker) crew.seats.items) }
-    ensures outside { IfOk result (λ crew.
-        IsOutsider (shard_frame S.frame_of) crew.fleet crew.outside) }
-    ensures numbered { IfOk result (λ crew.
-        crew.outside.number ≡ (shape_of setup.now).cores) }
-    ensures unseen { IfOk result (λ crew. (k : ℕ)
-        → front_in (fronts crew.outside.shards.items) k ≡ []) }
-    ensures room { IfOk result (λ crew. (crew.room.setup ≡ setup.now)
-        × (crew.room.passes ≡ (shape_of setup.now).cores + 1)) }
-    ensures outsiders { IfOk result (λ crew. (crew.outsiders.items ≡ [])
-        × ((shape_of setup.now).cores + 1 ≤ vec_capacity crew.outsiders)) }
-    ensures rested { IfOk result (λ crew. (crew.rested.items ≡ [])
-        × ((shape_of setup.now).cores ≤ vec_capacity crew.rested)) }
+    ensures manned { IfOk result (λ crew. IsManned S.frame_of S.fits_under setup.now states.items
+        crew.manned.fleet crew.manned.seats.items crew.manned.outside) }
+    ensures room { IfOk result (λ crew. (crew.spare.room.setup ≡ setup.now)
+        × (crew.spare.room.passes ≡ (shape_of setup.now).cores + 1)) }
+    ensures outsiders { IfOk result (λ crew. (crew.spare.outsiders.items ≡ [])
+        × ((shape_of setup.now).cores + 1 ≤ vec_capacity crew.spare.outsiders)) }
+    ensures rested { IfOk result (λ crew. (crew.spare.rested.items ≡ [])
+        × ((shape_of setup.now).cores ≤ vec_capacity crew.spare.rested)) }
     ensures workers { IfOk result (λ crew. (crew.workers.items ≡ [])
         × ((shape_of setup.now).cores ≤ vec_capacity crew.workers)) }
 {
-    let cores = setup.cores() as usize;
-    let room = Room::new(alloc, setup, 1)?;
-    let (fleet, mut passes) = Fleet::new(alloc, setup, states, 1)?;
-    let Some(outside) = passes.pop() else {
-        unreachable!()
-    };
-    let Ok(seats) = fleet.seats(alloc, passes) else {
-        return Err(Memory);
-    };
-    let outsiders = Vec::with_capacity(alloc, cores + 1)?;
-    let rested = Vec::with_capacity(alloc, cores)?;
-    let workers = Vec::with_capacity(alloc, cores)?;
+    let spare = make_room(alloc, setup)?;
+    let manned = man_fleet(alloc, setup, states)?;
+    let workers = Vec::with_capacity(alloc, setup.cores() as usize)?;
     Ok(CrewOf {
-        fleet,
-        seats,
-        outside,
-        room,
-        outsiders,
-        rested,
+        manned,
+        spare,
         workers,
     })
 }
@@ -137,14 +181,15 @@ fn work_one<R: Wait, S: Fits<P> + Drop, P: Drop, A: App<State = S, Load = P>, G:
     is_one_back.store(true, Ordering::SeqCst);
 }
 
-/// Lets all cores work, each in a thread of its own, until nothing is left to do or they give up.
+/// Lets all cores work, each in a thread of its own, until nothing is left to do or they give up;
+/// or leaves all to be run once the fleet is closed.
 fn work_all<
     R: Threads + Wait + Sync,
     S: Fits<P> + Drop + Send,
     P: Drop + Send,
     A: App<State = S, Load = P> + Sync,
     G: Gate + Sync,
->(rt: &R, fleet: &Fleet<S, P>, seats: &mut [Seat<S, P>], app: &A, gate: &G)
+>(rt: &R, fleet: &Fleet<S, P>, seats: &mut [Seat<S, P>], app: &A, gate: &G, leaves_all: bool)
     requires seats { AtEach (λ n seat.
         IsSeatOf S.frame_of S.fits_under fleet.now n seat.passes seat.worker) seats.old }
     requires served { let frame = frame_in (shard_frame S.frame_of) fleet.now in
@@ -155,7 +200,7 @@ fn work_all<
         (λ n. behind S.Trail (G.passes gate.now n) A.App) app.now fleet.now seats.old seats.new }
 {
     let threads = seats.len();
-    if threads == 0 {
+    if leaves_all || threads == 0 {
         return;
     }
     let is_one_back = AtomicBool::new(false);
@@ -176,6 +221,79 @@ fn work_all<
                 seat.exit.now.passes seat.exit.now.worker }
         { work_one(rt, fleet, number, seat, &is_one_back, app, gate) },
     );
+}
+
+/// Runs an app over a fleet as [`run_crew`] does, or leaves all to the thread of the caller.
+///
+/// # Errors
+///
+/// There was no memory to begin: event and load are handed back, and nothing was run.
+fn run_made<
+    R: Threads + Wait + Sync,
+    S: Fits<P> + Drop + Send,
+    P: Drop + Send,
+    A: App<State = S, Load = P> + Sync,
+    G: Gate + Sync,
+>(
+    rt: &R,
+    alloc: Global,
+    setup: &Setup,
+    states: Vec<S>,
+    begin: (Colour, Event, Option<P>),
+    app: &A,
+    gate: &G,
+    leaves_all: bool,
+) -> Result<(Weave<S, P>, Drained), Unregistered<P>>
+    requires first { AreInitial S.Trail setup.now states.items }
+    requires fits { (state : _) → slice_get states.items 0 ≡ Some state
+        → FitsSetup S.fits_under setup.now (S.frame_of state) begin }
+    requires served { (state : _) → slice_get states.items 0 ≡ Some state
+        → AppServes A.App setup.now (S.frame_of state) app.now }
+    ensures of_setup { IfOk result (λ ran. ran.0.setup ≡ setup.now) }
+    ensures framed { IfOk result (λ ran. (state : _) → slice_get states.items 0 ≡ Some state
+        → S.frame_of ran.0.given ≡ S.frame_of state) }
+    ensures begun { IfOk result (λ ran. IsRegistered begin.0 begin.1 ran.0) }
+    ensures accounted { IfOk result (λ ran.
+        IsAccounted S.Trail S.fits_under A.App app.now (begin ∷ []) ran.0) }
+    ensures told { IfOk result (λ ran. IsTold S.Trail S.fits_under A.App app.now
+        (λ c. slice_get states.items c.0) (begin ∷ []) ran.0) }
+    ensures gated { IfOk result (λ ran. RanBehind S.Trail S.fits_under A.App app.now
+        (G.passes gate.now) (λ c. slice_get states.items c.0) (begin ∷ []) ran.1 ran.0) }
+    ensures stands { IfOk result (λ ran. StandsWell S.Trail S.fits_under ran.0) }
+    ensures free { IfOk result (λ ran. AllFree ran.0) }
+    ensures drained { IfOk result (λ ran. ran.1 ≡ Drained.Empty → HistoriesAreDrained ran.0) }
+    ensures memory { IfOk result (λ ran. ran.1 ≡ Drained.Memory → SomeHalted ran.0) }
+    ensures back { IfErr result (λ refused. refused ≡ record { event = begin.1; load = begin.2 }) }
+{
+    let (colour, event, load) = begin;
+    let Ok(crew) = make_crew(alloc, setup, states) else {
+        return Err(Unregistered { event, load });
+    };
+    let CrewOf {
+        manned,
+        spare,
+        workers,
+    } = crew;
+    let MannedOf {
+        fleet,
+        mut seats,
+        mut outside,
+    } = manned;
+    let CrewRoomOf {
+        room,
+        mut outsiders,
+        rested,
+    } = spare;
+    if let Err(refused) = fleet.post(rt, &mut outside, colour, event, load) {
+        workers.destroy_empty();
+        return Err(refused);
+    }
+    work_all(rt, &fleet, &mut seats, app, gate, leaves_all);
+    outsiders.push_reserved(outside);
+    let mut weave = fleet.close_home(room, seats, outsiders, rested, workers);
+    settle(rt, &mut weave, setup.cores(), app);
+    let drained = weave.drain(rt, app);
+    Ok((weave, drained))
 }
 
 /// Runs an app over a fleet of these states, from its first event on, with a thread for each core,
@@ -226,27 +344,47 @@ pub fn run_crew<
     ensures memory { IfOk result (λ ran. ran.1 ≡ Drained.Memory → SomeHalted ran.0) }
     ensures back { IfErr result (λ refused. refused ≡ record { event = begin.1; load = begin.2 }) }
 {
-    let (colour, event, load) = begin;
-    let Ok(crew) = make_crew(alloc, setup, states) else {
-        return Err(Unregistered { event, load });
-    };
-    let CrewOf {
-        fleet,
-        mut seats,
-        mut outside,
-        room,
-        mut outsiders,
-        rested,
-        workers,
-    } = crew;
-    if let Err(refused) = fleet.post(rt, &mut outside, colour, event, load) {
-        workers.destroy_empty();
-        return Err(refused);
-    }
-    work_all(rt, &fleet, &mut seats, app, gate);
-    outsiders.push_reserved(outside);
-    let mut weave = fleet.close_home(room, seats, outsiders, rested, workers);
-    settle(rt, &mut weave, setup.cores(), app);
-    let drained = weave.drain(rt, app);
-    Ok((weave, drained))
+    run_made(rt, alloc, setup, states, begin, app, gate, false)
+}
+
+/// Runs an app as [`run_crew`] does, behind no gate. A crew of one core makes no thread: the caller's
+/// runs all, without a lock in its way.
+///
+/// # Errors
+///
+/// There was no memory to begin: event and load are handed back, and nothing was run.
+pub fn run_open<
+    R: Threads + Wait + Sync,
+    S: Fits<P> + Drop + Send,
+    P: Drop + Send,
+    A: App<State = S, Load = P> + Sync,
+>(
+    rt: &R,
+    alloc: Global,
+    setup: &Setup,
+    states: Vec<S>,
+    begin: (Colour, Event, Option<P>),
+    app: &A,
+) -> Result<(Weave<S, P>, Drained), Unregistered<P>>
+    requires first { AreInitial S.Trail setup.now states.items }
+    requires fits { (state : _) → slice_get states.items 0 ≡ Some state
+        → FitsSetup S.fits_under setup.now (S.frame_of state) begin }
+    requires served { (state : _) → slice_get states.items 0 ≡ Some state
+        → AppServes A.App setup.now (S.frame_of state) app.now }
+    ensures of_setup { IfOk result (λ ran. ran.0.setup ≡ setup.now) }
+    ensures framed { IfOk result (λ ran. (state : _) → slice_get states.items 0 ≡ Some state
+        → S.frame_of ran.0.given ≡ S.frame_of state) }
+    ensures begun { IfOk result (λ ran. IsRegistered begin.0 begin.1 ran.0) }
+    ensures accounted { IfOk result (λ ran.
+        IsAccounted S.Trail S.fits_under A.App app.now (begin ∷ []) ran.0) }
+    ensures told { IfOk result (λ ran. IsTold S.Trail S.fits_under A.App app.now
+        (λ c. slice_get states.items c.0) (begin ∷ []) ran.0) }
+    ensures stands { IfOk result (λ ran. StandsWell S.Trail S.fits_under ran.0) }
+    ensures free { IfOk result (λ ran. AllFree ran.0) }
+    ensures drained { IfOk result (λ ran. ran.1 ≡ Drained.Empty → HistoriesAreDrained ran.0) }
+    ensures memory { IfOk result (λ ran. ran.1 ≡ Drained.Memory → SomeHalted ran.0) }
+    ensures back { IfErr result (λ refused. refused ≡ record { event = begin.1; load = begin.2 }) }
+{
+    let is_alone = setup.cores() == 1;
+    run_made(rt, alloc, setup, states, begin, app, &OpenGate, is_alone)
 }

@@ -3,7 +3,8 @@
 //!
 //! [`run_crew`] makes a [`Fleet`](mely_fleet::Fleet), posts the first event, lets the worker of each
 //! core work in a thread of its own until nothing is left to do, and closes the fleet. Where the
-//! machine refused a thread, or started it late, the caller's thread runs what is left.
+//! machine refused a thread, or started it late, the caller's thread runs what is left. [`run_open`]
+//! does so without a gate, and lets the caller's thread run all where there is one core.
 //!
 //! ```text
 //! let begin = (colour, event, load);
@@ -15,4 +16,4 @@
 mod crew;
 mod settling;
 
-pub use crew::run_crew;
+pub use crew::{run_crew, run_open};

@@ -13,9 +13,8 @@ use Rattle.std.proofs.lemmas.Nat.{div-add-mod'}
 use Rattle.mely_weave.specs.Side.{shard_of}
 use Rattle.mely_note.specs.ShowsNotes.{IsUntouched}
 use Rattle.mely_kept.proofs.MadeLemmas.{untouched_initial}
-use Rattle.mely_shard.specs.Shard.{ShardState, ColourState, IsInitialShard, givens, initial_lane}
+use Rattle.mely_shard.specs.Shard.{ShardState, IsInitialShard, givens}
 use Rattle.mely_weave.specs.Dealing.{AreDealt}
-use Rattle.mely_weave.proofs.Wholes.MakeLemmas.{dealt_to}
 use Rattle.mely_weave.proofs.Wholes.DealLemmas.{each_push, both_push}
 use Rattle.mely_lock.specs.declared.ticketed.Ticketed.{Ticketed}
 use Rattle.mely_lock.specs.declared.pass.Pass.{Pass}
@@ -34,44 +33,42 @@ use Rattle.mely_kept_chain.specs.Frames.{chain_frame, numbers_of}
 use Rattle.mely_kept_chain.specs.KeptChain.{KeptChainState}
 use Rattle.mely_kept.specs.KeptShard.{KeptShardState}
 
-givens_first : {S : Type 0} (P : Type 0) (states : List S) → map (λ (lane : ColourState S P). lane.given) (map (λ state. initial_lane {S = S} {P = P} state) states) ≡ states
-givens_first P [] = refl
-givens_first P (state ∷ states) = ap (λ rest. state ∷ rest) (givens_first P states)
-
-module _ {S P F Y : Type 0} (t : TrailWords S F) (setup : Setup) (states : List S) (first : AreInitial t setup states) (items : Y → List S) (piles : List Y) (dealt : AreDealt items (shape_of setup).shards states piles)
-    (shards : List (ShardState S P)) (many : length shards ≡ (shape_of setup).shards) (are : (shard : ℕ) (pile : Y) (has : ShardState S P) → slice_get piles shard ≡ Some pile → slice_get shards shard ≡ Some has → IsInitialShard setup shard (items pile) has) where
+module _ {S P F : Type 0} (t : TrailWords S F) (setup : Setup) (states : List S) (first : AreInitial t setup states) (shards : List (ShardState S P)) (dealt : AreDealt givens (shape_of setup).shards states shards)
+    (are : (shard : ℕ) (has : ShardState S P) → slice_get shards shard ≡ Some has → IsInitialShard setup shard (givens has) has) where
   -- the states of each shard have the frame of the first state
   pub shard_framed : (given : S) → slice_get states 0 ≡ Some given → (k : ℕ) (has : ShardState S P) → slice_get shards k ≡ Some has → HaveFrame t.frame_of (t.frame_of given) (givens has)
-  shard_framed given at k has here i state is =
-      let to = dealt_to t (λ f c e l. Unit {0}) setup states first items piles dealt shards many are k has here in
-      let there : slice_get (items to.pile) i ≡ Some state = ap (λ xs. slice_get xs i) (sym (ap (λ lanes. map (λ (lane : ColourState S P). lane.given) lanes) to.is.lanes ∙ givens_first P (items to.pile))) ∙ is in
-      first.one_frame (i * (shape_of setup).shards + k) 0 state given (sym (dealt.each k to.pile to.there i) ∙ there) at
+  shard_framed given at k has here i state is = first.one_frame (i * (shape_of setup).shards + k) 0 state given (sym (dealt.each k has here i) ∙ is) at
 
   -- each shard is the setup's of its number
   pub shard_is_own : (k : ℕ) (has : ShardState S P) → slice_get shards k ≡ Some has → (has.setup ≡ setup) × (has.shard ≡ k)
-  shard_is_own k has here =
-      let to = dealt_to t (λ f c e l. Unit {0}) setup states first items piles dealt shards many are k has here in
-      (to.is.of_setup, to.is.of_shard)
+  shard_is_own k has here = let is = are k has here in (is.of_setup, is.of_shard)
 
   -- and nothing was registered there
   pub shard_untouched : (k : ℕ) (has : ShardState S P) → slice_get shards k ≡ Some has → IsUntouched has
-  shard_untouched k has here =
-      let to = dealt_to t (λ f c e l. Unit {0}) setup states first items piles dealt shards many are k has here in
-      untouched_initial setup k (items to.pile) has to.is
+  shard_untouched k has here = untouched_initial setup k (givens has) has (are k has here)
 
   -- the states that it was given are those of its colours
   given_to : (c : Colour) (has : ShardState S P) → slice_get shards (shard_of setup c) ≡ Some has → slice_get (givens has) (place setup c) ≡ slice_get states c.0
-  given_to c has here =
-      let to = dealt_to t (λ f d e l. Unit {0}) setup states first items piles dealt shards many are (shard_of setup c) has here in
-      ap (λ xs. slice_get xs (place setup c)) (ap (λ lanes. map (λ (lane : ColourState S P). lane.given) lanes) to.is.lanes ∙ givens_first P (items to.pile))
-      ∙ dealt.each (shard_of setup c) to.pile to.there (place setup c)
-      ∙ ap (slice_get states) (div-add-mod' c.0 (shape_of setup).shards)
+  given_to c has here = dealt.each (shard_of setup c) has here (place setup c) ∙ ap (slice_get states) (div-add-mod' c.0 (shape_of setup).shards)
 
   -- so it is where these are the shards' givens
   pub states_given : (at : ℕ → List S) → ((k : ℕ) (has : ShardState S P) → slice_get shards k ≡ Some has → at k ≡ givens has) → (c : Colour) → slice_get (at (shard_of setup c)) (place setup c) ≡ slice_get states c.0
   states_given at is c =
+      let many = dealt.many in
       let has = get_there shards (shard_of setup c) (let some : 1 ≤ (shape_of setup).shards = setup.shards_in.0 in omega (arith, some, many)) in
       ap (λ xs. slice_get xs (place setup c)) (is (shard_of setup c) has.0 has.1) ∙ given_to c has.0 has.1
+
+-- nothing stands in an empty list
+pub nothing_at : {A : Type 0} (k : ℕ) (x : A) → slice_get [] k ≡ Some x → ⊥
+nothing_at k x at = let low = slice_get_within [] k x at in omega (arith, low)
+
+-- a row of no passes, for no lock
+pub no_passes : {V N F : Type 0} {g : _} (frame_of : V → F) (n : ℕ) (row : List (Pass V N F g)) → length row ≡ 0 → IsInitialRow frame_of [] n row
+no_passes frame_of n [] none = record {
+  are = record { many = refl; each = λ k lock pass there at. absurd (nothing_at k lock there) };
+  unseen = λ k pass at. absurd (nothing_at k pass at);
+}
+no_passes frame_of n (pass ∷ row) none = absurd (omega (arith, none))
 
 first_of : {A B C : Type 0} → A × B × C → A
 first_of (a, b, c) = a

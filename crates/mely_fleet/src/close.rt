@@ -10,7 +10,7 @@ ghost use Rattle.mely_fleet.specs.Work.{HasFinishedBut, standpoint};
 use crate::closing::{chains_out, close_all, hand_in_all, shards_out};
 use crate::fleet::FleetOf;
 use crate::passes::Passes;
-use crate::room::{Room, RoomOf};
+use crate::room::{LocksRoom, Room, RoomOf};
 use mely_event::{Fits, Kept, Trail};
 use mely_kept::KeptShard;
 use mely_weave::Weave;
@@ -58,13 +58,19 @@ impl<S: Fits<P> + Drop, P: Drop> FleetOf<KeptShard<S, P>> {
             setup: _,
             passes: _,
             weave,
-            shards: shard_list,
-            chains: chain_list,
-            kept_shards: kept_shard_list,
-            kept_chains: kept_chain_list,
-            mut shard_columns,
-            mut chain_columns,
+            shards: of_shards,
+            chains: of_chains,
         } = room;
+        let LocksRoom {
+            kept: kept_shard_list,
+            out: shard_list,
+            columns: mut shard_columns,
+        } = of_shards;
+        let LocksRoom {
+            kept: kept_chain_list,
+            out: chain_list,
+            columns: mut chain_columns,
+        } = of_chains;
         hand_in_all(passes, &mut shard_columns, &mut chain_columns);
         let kept_shards = close_all(shard_locks, shard_columns, kept_shard_list);
         let kept_chains = close_all(chain_locks, chain_columns, kept_chain_list);

@@ -1,10 +1,17 @@
 //! How a fleet is made.
-ghost use Rattle.std.specs.Prelude.{◌≡◌, ◌<◌, ◌≤◌, ℕ, [], Some, IfOk, length, slice_get};
+ghost use Rattle.std.specs.Prelude.{◌≡◌, ◌<◌, ◌≤◌, ℕ, [], Some, IfOk, length, slice_get, slice_index_or};
 ghost use Rattle.mely_core.specs.CoreQueue.{empty_core};
 ghost use Rattle.mely_shard.specs.Shard.{givens};
+ghost use Rattle.mely_history.specs.Setup.{shape_of};
 ghost use Rattle.mely_weave.specs.Dealing.{AtEach};
-ghost use Rattle.mely_kept.specs.Frames.{HaveFrame};
+ghost use Rattle.mely_weave.specs.Making.{AreInitial};
+ghost use Rattle.mely_kept.specs.Frames.{HaveFrame, shard_frame};
+ghost use Rattle.mely_kept_chain.specs.Frames.{chain_frame};
 ghost use Rattle.mely_note.specs.ShowsNotes.{IsUntouched};
+ghost use Rattle.mely_fleet.specs.Dealing.{IsInitialRow};
+ghost use Rattle.mely_fleet.specs.Fleets.{chain_frame_for};
+ghost use Rattle.mely_fleet.specs.Opening.{AreShardLocks};
+ghost use Rattle.mely_fleet.specs.Rows.{AreFramed, HavePasses};
 
 use crate::dealing::lock_all;
 use crate::fleet::{Fleet, FleetOf};
@@ -15,9 +22,9 @@ use mely_event::{Fits, Kept, Memory, Trail};
 use mely_history::Setup;
 use mely_kept::KeptShard;
 use mely_kept_chain::KeptChain;
-use mely_lock::Pass;
+use mely_lock::{Pass, Ticketed};
 use mely_shard::Shard;
-use mely_weave::{chains_of, deal, shards_of};
+use mely_weave::{ShardsRoom, chains_of};
 use std::alloc::Global;
 use std::snapshot::Snapshot;
 
@@ -104,11 +111,59 @@ fn first_given<S>(states: &Vec<S>) -> Snapshot<S>
     Snapshot::of(&states[0])
 }
 
+/// A lock round each shard of a setup with these states, and for each number a row of passes.
+fn lock_shards<S: Fits<P> + Drop, P: Drop>(
+    alloc: Global,
+    setup: &Setup,
+    states: Vec<S>,
+    passes: u16,
+) -> Result<
+    (
+        Vec<Ticketed<KeptShard<S, P>>>,
+        Vec<Vec<Pass<KeptShard<S, P>>>>,
+    ),
+    Memory,
+>
+    requires first { AreInitial S.Trail setup.now states.items }
+    requires some { 0 < passes }
+    ensures locks { IfOk result (λ r. AreShardLocks (shard_frame S.frame_of) S.frame_of setup.now
+        states.items r.0.items) }
+    ensures dealt { IfOk result (λ r. HavePasses passes r.0.items) }
+    ensures many { IfOk result (λ r. length r.1.items ≡ passes) }
+    ensures rows { IfOk result (λ r. (n : ℕ) (d : _) → n < passes →
+        IsInitialRow (shard_frame S.frame_of) r.0.items n (slice_index_or r.1.items n d).items) }
+{
+    let given = first_given(&states);
+    let room = ShardsRoom::new(alloc, setup)?;
+    let shards = room.fill(states);
+    let kept = keep_shards(alloc, shards, &given)?;
+    let locked = lock_all(alloc, kept, passes)?;
+    Ok(locked)
+}
+
+/// A lock round the empty chain of each core, and for each number a row of passes.
+fn lock_chains(
+    alloc: Global,
+    setup: &Setup,
+    passes: u16,
+) -> Result<(Vec<Ticketed<KeptChain>>, Vec<Vec<Pass<KeptChain>>>), Memory>
+    requires some { 0 < passes }
+    ensures count { IfOk result (λ r. length r.0.items ≡ (shape_of setup.now).cores) }
+    ensures framed { IfOk result (λ r.
+        AreFramed chain_frame (λ _. chain_frame_for setup.now) r.0.items) }
+    ensures dealt { IfOk result (λ r. HavePasses passes r.0.items) }
+    ensures many { IfOk result (λ r. length r.1.items ≡ passes) }
+    ensures rows { IfOk result (λ r. (n : ℕ) (d : _) → n < passes →
+        IsInitialRow chain_frame r.0.items n (slice_index_or r.1.items n d).items) }
+{
+    let chains = chains_of(alloc, setup)?;
+    let kept = keep_chains(alloc, chains)?;
+    let locked = lock_all(alloc, kept, passes)?;
+    Ok(locked)
+}
+
 impl<S: Fits<P> + Drop, P: Drop> FleetOf<KeptShard<S, P>> {
-    ghost use Rattle.std.specs.Prelude.{◌≡◌, ◌≤◌, ◌+◌, IfOk};
-    ghost use Rattle.mely_history.specs.Setup.{shape_of};
-    ghost use Rattle.mely_weave.specs.Making.{AreInitial};
-    ghost use Rattle.mely_kept.specs.Frames.{shard_frame};
+    ghost use Rattle.std.specs.Prelude.{◌+◌};
     ghost use Rattle.mely_fleet.specs.Opening.{IsOpened};
 
     /// A fleet at first, and the passes of its callers by number: those of the
@@ -133,18 +188,11 @@ impl<S: Fits<P> + Drop, P: Drop> FleetOf<KeptShard<S, P>> {
             IsOpened (shard_frame S.frame_of) S.frame_of setup.now states.items callers
             opened.0 opened.1.items) }
     {
-        let cores = setup.cores();
-        let count = cores + outsiders;
-        let bell = Bell::new(alloc, cores)?;
-        let given = first_given(&states);
-        let by_shard = deal(alloc, setup, states)?;
-        let made_shards = shards_of(alloc, setup, by_shard)?;
-        let kept_shards = keep_shards(alloc, made_shards, &given)?;
-        let made_chains = chains_of(alloc, setup)?;
-        let kept_chains = keep_chains(alloc, made_chains)?;
-        let (shards, shard_rows) = lock_all(alloc, kept_shards, count)?;
-        let (chains, chain_rows) = lock_all(alloc, kept_chains, count)?;
+        let count = setup.cores() + outsiders;
+        let (shards, shard_rows) = lock_shards(alloc, setup, states, count)?;
+        let (chains, chain_rows) = lock_chains(alloc, setup, count)?;
         let passes = pair_up(alloc, shard_rows, chain_rows)?;
+        let bell = Bell::new(alloc, setup.cores())?;
         let fleet = FleetOf {
             setup: *setup,
             passes: count,

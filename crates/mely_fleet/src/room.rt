@@ -13,6 +13,17 @@ use mely_shard::Shard;
 use mely_weave::WeaveRoom;
 use std::alloc::Global;
 
+/// Room for closing the locks of one kind. `V` is what a lock keeps, `T` what comes out of that.
+#[derive(Drop)]
+pub(crate) struct LocksRoom<T, V: Kept> {
+    /// Empty lists with room for what all locks kept, and for what comes out of it.
+    pub(crate) kept: Vec<V>,
+    pub(crate) out: Vec<T>,
+
+    /// For each lock an empty list with room for its passes.
+    pub(crate) columns: Vec<Vec<Pass<V>>>,
+}
+
 /// Room for all that closing a fleet of a setup with so many passes takes, made beforehand, so that
 /// [`close`](crate::FleetOf::close) takes no memory. `V` is what the locks of the shards keep.
 #[derive(Drop)]
@@ -20,29 +31,23 @@ pub struct RoomOf<S: Fits<P>, P, V: Kept> {
     pub(crate) setup: Setup,
     pub(crate) passes: u16,
     pub(crate) weave: WeaveRoom<S, P>,
-
-    /// Empty lists with room for all shards and all chains, and for what their locks kept.
-    pub(crate) shards: Vec<Shard<S, P>>,
-    pub(crate) chains: Vec<CoreQueue>,
-    pub(crate) kept_shards: Vec<V>,
-    pub(crate) kept_chains: Vec<KeptChain>,
-
-    /// For each lock an empty list with room for its passes.
-    pub(crate) shard_columns: Vec<Vec<Pass<V>>>,
-    pub(crate) chain_columns: Vec<Vec<Pass<KeptChain>>>,
+    pub(crate) shards: LocksRoom<Shard<S, P>, V>,
+    pub(crate) chains: LocksRoom<CoreQueue, KeptChain>,
     ghost for_weave: { weave ≡ setup },
-    ghost for_shards: { (shards.items ≡ []) × ((shape_of setup).shards ≤ vec_capacity shards) },
-    ghost for_chains: { (chains.items ≡ []) × ((shape_of setup).cores ≤ vec_capacity chains) },
-    ghost for_kept_shards: { (kept_shards.items ≡ [])
-        × ((shape_of setup).shards ≤ vec_capacity kept_shards) },
-    ghost for_kept_chains: { (kept_chains.items ≡ [])
-        × ((shape_of setup).cores ≤ vec_capacity kept_chains) },
-    ghost column_for_each_shard: { length shard_columns.items ≡ (shape_of setup).shards },
-    ghost column_for_each_core: { length chain_columns.items ≡ (shape_of setup).cores },
+    ghost for_kept_shards: { (shards.kept.items ≡ [])
+        × ((shape_of setup).shards ≤ vec_capacity shards.kept) },
+    ghost for_shards: { (shards.out.items ≡ [])
+        × ((shape_of setup).shards ≤ vec_capacity shards.out) },
+    ghost for_kept_chains: { (chains.kept.items ≡ [])
+        × ((shape_of setup).cores ≤ vec_capacity chains.kept) },
+    ghost for_chains: { (chains.out.items ≡ [])
+        × ((shape_of setup).cores ≤ vec_capacity chains.out) },
+    ghost column_for_each_shard: { length shards.columns.items ≡ (shape_of setup).shards },
+    ghost column_for_each_core: { length chains.columns.items ≡ (shape_of setup).cores },
     ghost for_shard_passes: { AreFilled (λ list. list.items) vec_len vec_capacity [] passes
-        shard_columns.items },
+        shards.columns.items },
     ghost for_chain_passes: { AreFilled (λ list. list.items) vec_len vec_capacity [] passes
-        chain_columns.items },
+        chains.columns.items },
 }
 
 /// Room for all that closing a [`Fleet`](crate::Fleet) takes, made beforehand.
@@ -62,36 +67,56 @@ impl<S: Fits<P> + Drop, P: Drop> RoomOf<S, P, KeptShard<S, P>> {
         ensures passes { IfOk result (λ room. room.passes
             ≡ (shape_of setup.now).cores + outsiders) }
     {
-        let passes = setup.cores() + outsiders;
-        let shards = setup.shards() as usize;
-        let cores = setup.cores() as usize;
+        let cores = setup.cores();
+        let passes = cores + outsiders;
+        let weave = WeaveRoom::new(alloc, setup)?;
+        let shards = LocksRoom::new(alloc, setup.shards(), passes)?;
+        let chains = LocksRoom::new(alloc, cores, passes)?;
         Ok(RoomOf {
             setup: *setup,
             passes,
-            weave: WeaveRoom::new(alloc, setup)?,
-            shards: Vec::with_capacity(alloc, shards)?,
-            chains: Vec::with_capacity(alloc, cores)?,
-            kept_shards: Vec::with_capacity(alloc, shards)?,
-            kept_chains: Vec::with_capacity(alloc, cores)?,
-            shard_columns: columns(alloc, setup.shards(), passes)?,
-            chain_columns: columns(alloc, setup.cores(), passes)?,
+            weave,
+            shards,
+            chains,
         })
     }
 }
 
+impl<T: Drop, V: Kept + Drop> LocksRoom<T, V> {
+    /// Room for so many locks, each with so many passes.
+    ///
+    /// # Errors
+    ///
+    /// There was no memory.
+    fn new(alloc: Global, locks: u16, passes: u16) -> Result<LocksRoom<T, V>, Memory>
+        ensures kept { IfOk result (λ room. (room.kept.items ≡ [])
+            × (locks ≤ vec_capacity room.kept)) }
+        ensures out { IfOk result (λ room. (room.out.items ≡ [])
+            × (locks ≤ vec_capacity room.out)) }
+        ensures many { IfOk result (λ room. length room.columns.items ≡ locks) }
+        ensures columns { IfOk result (λ room. AreFilled (λ list. list.items) vec_len vec_capacity []
+            passes room.columns.items) }
+    {
+        let kept = Vec::with_capacity(alloc, locks as usize)?;
+        let out = Vec::with_capacity(alloc, locks as usize)?;
+        let columns = columns(alloc, locks, passes as usize)?;
+        Ok(LocksRoom { kept, out, columns })
+    }
+}
+
 /// So many empty lists, each with room for so many passes.
-fn columns<V: Kept + Drop>(
+pub(crate) fn columns<V: Kept + Drop>(
     alloc: Global,
-    locks: u16,
-    passes: u16,
+    lists: u16,
+    room: usize,
 ) -> Result<Vec<Vec<Pass<V>>>, Memory>
-    ensures many { IfOk result (λ columns. length columns.items ≡ locks) }
+    ensures many { IfOk result (λ columns. length columns.items ≡ lists) }
     ensures room { IfOk result (λ columns.
-        AreFilled (λ list. list.items) vec_len vec_capacity [] passes columns.items) }
+        AreFilled (λ list. list.items) vec_len vec_capacity [] room columns.items) }
 {
-    let mut columns = Vec::with_capacity(alloc, locks as usize)?;
-    'locks: for _lock in 0..locks {
-        columns.push_reserved(Vec::with_capacity(alloc, passes as usize)?);
+    let mut columns = Vec::with_capacity(alloc, lists as usize)?;
+    'lists: for _list in 0..lists {
+        columns.push_reserved(Vec::with_capacity(alloc, room)?);
     }
     Ok(columns)
 }

@@ -1,6 +1,6 @@
 -- How long an answer is at most.
-use Rattle.std.specs.Prelude.{◌≡◌, ℕ, ◌+◌, ◌≤◌, Bool, true, false, if◌then◌else◌, List, [], ◌++◌, length, Option, Some, None, option_and_then, ⊤}
-use Rattle.std.specs.Option.{option_or}
+use Rattle.std.specs.Prelude.{◌≡◌, ℕ, ◌+◌, ◌<◌, ◌≤◌, ◌^◌, Bool, true, false, if◌then◌else◌, List, [], ◌++◌, length, Option, Some, None, option_and_then, ⊤}
+use Rattle.std.specs.Option.{option_or, ForSome}
 use Rattle.std.proofs.Common.{refl, sym, arith, length-append, lit≤}
 use Rattle.sws_request.specs.Request.{Request}
 use Rattle.sws_site.specs.declared.statuses.Status.{Status}
@@ -15,6 +15,8 @@ use Rattle.sws_site.specs.Files.{File, file_named}
 use Rattle.sws_site.specs.Limits.{IsWithinLimits, size_limit, name_limit}
 use Rattle.sws_site.specs.Site.{SiteState}
 use Rattle.sws_site.proofs.HeadLengthsLemmas.{media_type_of-short, IsShortRange, head_text-short}
+use Rattle.sws_site.specs.Options.{no_age}
+use Rattle.sws_site.proofs.AgeLemmas.{age_of-short}
 use Rattle.sws_site.proofs.FileLemmas.{file_named-short, file_named-name-short}
 use Rattle.sws_answer.specs.Asked.{Asked, request, not_request, too_long}
 use Rattle.sws_answer.specs.declared.ranges.Selection.{Selection}
@@ -22,7 +24,7 @@ use Rattle.sws_answer.specs.declared.ranges.Selection.TheVariants.{Whole, Part, 
 use Rattle.sws_answer.specs.Ranges.{IsWithin, selection_for}
 use Rattle.sws_answer.specs.Targets.{name_of}
 use Rattle.sws_answer.specs.Cases.{file_for, folder_for, subject_for}
-use Rattle.sws_answer.specs.Answers.{text_of, text_limit, Content, content_of, location_of, range_of, response, request_answer, answer_of}
+use Rattle.sws_answer.specs.Answers.{text_of, text_limit, Content, content_of, location_of, range_of, age_for, response, request_answer, answer_of}
 use Rattle.sws_answer.proofs.RangeLemmas.{selection_for-within, length-part-le}
 
 -- ---- files
@@ -118,6 +120,10 @@ range_of-short (Some file) (Part first last) sent short fits small =
     let few = short.0 in ((let a = fits.0 in let b = fits.1 in omega (arith, few)), (let b = fits.1 in omega (arith, few)), omega (arith, few), small)
 range_of-short (Some file) Unsatisfied sent short fits small = let few = short.0 in (omega (arith, few), small)
 
+age_for-short : (site : SiteState) (file : Option File) → ForSome (age_for site file) (λ seconds. seconds < 2 ^ 32)
+age_for-short site None = no_age
+age_for-short site (Some file) = age_of-short site.options file.0
+
 response-short : (site : SiteState) (status : Status) (file : Option File) (selection : Selection) (closes is_head : Bool) → IsWithinLimits site.files → IsShort file → FitsFile file selection
     → length (text_of (response site status file selection closes is_head)) ≤ text_limit
 unfolding response
@@ -130,14 +136,14 @@ response-short site status file selection closes is_head within short fits =
       closes = closes;
       says_kept = site.options.keeps_alive;
       date = site.date;
-      max_age = site.options.added.max_age;
+      max_age = age_for site file;
       range = range_of file selection;
       media_type = (content_of site status file selection).media_type;
       len = length (content_of site status file selection).bytes;
       headers = site.options.added.headers;
     } in
     by_head (head_text head) (content_of site status file selection).bytes
-    (let head_short = head_text-short head content.media_type (omega arith) (range_of-short file selection (length (content_of site status file selection).bytes) short fits few) site.options.added.short_age site.options.added.short_headers in
+    (let head_short = head_text-short head content.media_type (omega arith) (range_of-short file selection (length (content_of site status file selection).bytes) short fits few) (age_for-short site file) site.options.added.short_headers in
     let line = location-short (row_of status).has_location file short in omega (arith, head_short, line)) content.bytes is_head
   where
     by_head : (head bytes : List ℕ) → length head ≤ 8192 → length bytes ≤ size_limit → (t : Bool) → length (head ++ (if t then [] else bytes)) ≤ text_limit

@@ -7,6 +7,7 @@ use Rattle.std.proofs.lemmas.Str.Parse.{IsNumeralModel, numerals_by_value, tells
 use Rattle.std.proofs.lemmas.Str.{digit_value_digit}
 use Rattle.std.proofs.lemmas.Int.Digits.{digits_value_more}
 use Rattle.std.specs.List.{position_or_len}
+use Rattle.std.specs.Option.{ForSome}
 use Rattle.std.proofs.Common.{refl, sym, ap, ◌∙◌, arith, lit≤, lit<, length-drop, ltb-true, leb-true}
 use Rattle.std.proofs.lemmas.Bool.{eq-eqb}
 use Rattle.std.proofs.lemmas.List.{length-take}
@@ -17,6 +18,7 @@ use Rattle.sws_site.specs.declared.heads.ContentRange.TheVariants.{Selected, NoS
 use Rattle.sws_site.specs.declared.options.SiteOptions.{SiteOptions}
 use Rattle.sws_site.specs.ResponseHeads.{ResponseHead, head_text}
 use Rattle.sws_site.specs.Fixed.{plain_text}
+use Rattle.sws_site.specs.Options.{no_age}
 use Rattle.sws_site.specs.Limits.{size_limit}
 use Rattle.sws_site.specs.Files.{File}
 use Rattle.sws_site.specs.Site.{SiteState}
@@ -156,34 +158,34 @@ length-part-le bytes first last limit short = omega (arith, length-take (last - 
 
 -- ---- the heads that say what is sent of a file
 
-abbrev pub part_head : SiteOptions → Bool → ℕ → ℕ → Option HttpDate → List ℕ → List ℕ → ResponseHead
-part_head options closes first last date media_type bytes =
+abbrev pub part_head : SiteOptions → Bool → ℕ → ℕ → Option HttpDate → Option ℕ → List ℕ → List ℕ → ResponseHead
+part_head options closes first last date max_age media_type bytes =
     record {
       status = PartialContent;
       location = None;
       closes = closes;
       says_kept = options.keeps_alive;
       date = date;
-      max_age = options.added.max_age;
+      max_age = max_age;
       range = Some (Selected first last (length bytes));
       media_type = media_type;
       len = length (slice_range bytes first (last + 1));
       headers = options.added.headers;
     }
 
-pub part_head-same : (options : SiteOptions) (closes : Bool) (first last : ℕ) (date other : Option HttpDate) (media_type media bytes contents : List ℕ) → date ≡ other → media_type ≡ media → bytes ≡ contents
-    → head_text (part_head options closes first last date media_type bytes) ≡ head_text (part_head options closes first last other media contents)
-part_head-same options closes first last date other media_type media bytes contents d k b = cc
+pub part_head-same : (options : SiteOptions) (closes : Bool) (first last : ℕ) (date other : Option HttpDate) (max_age age : Option ℕ) (media_type media bytes contents : List ℕ) → date ≡ other → max_age ≡ age → media_type ≡ media
+    → bytes ≡ contents → head_text (part_head options closes first last date max_age media_type bytes) ≡ head_text (part_head options closes first last other age media contents)
+part_head-same options closes first last date other max_age age media_type media bytes contents d a k b = cc
 
-pub part_head-short : (options : SiteOptions) (closes : Bool) (first last : ℕ) (date : Option HttpDate) (media_type bytes : List ℕ) → length media_type ≤ 80 → length bytes ≤ size_limit
-    → first ≤ last → last < length bytes → length (head_text (part_head options closes first last date media_type bytes)) ≤ 1360
-part_head-short options closes first last date media_type bytes short few ordered within =
+pub part_head-short : (options : SiteOptions) (closes : Bool) (first last : ℕ) (date : Option HttpDate) (max_age : Option ℕ) (media_type bytes : List ℕ) → ForSome max_age (λ seconds. seconds < 2 ^ 32)
+    → length media_type ≤ 80 → length bytes ≤ size_limit → first ≤ last → last < length bytes → length (head_text (part_head options closes first last date max_age media_type bytes)) ≤ 1360
+part_head-short options closes first last date max_age media_type bytes age short few ordered within =
     let part = length-part-le bytes first (last + 1) size_limit few in
-    head_text-short (part_head options closes first last date media_type bytes) short (omega arith) (omega arith, omega arith, omega arith, omega arith) options.added.short_age options.added.short_headers
+    head_text-short (part_head options closes first last date max_age media_type bytes) short (omega arith) (omega arith, omega arith, omega arith, omega arith) age options.added.short_headers
 
 abbrev pub no_part_head : SiteOptions → Bool → Option HttpDate → ℕ → ResponseHead
 no_part_head options closes date len =
-    record { status = RangeNotSatisfiable; location = None; closes = closes; says_kept = options.keeps_alive; date = date; max_age = options.added.max_age; range = Some (NoSuch len); media_type = plain_text; len = 26; headers = options.added.headers }
+    record { status = RangeNotSatisfiable; location = None; closes = closes; says_kept = options.keeps_alive; date = date; max_age = None; range = Some (NoSuch len); media_type = plain_text; len = 26; headers = options.added.headers }
 
 pub no_part_head-short : (options : SiteOptions) (closes : Bool) (date : Option HttpDate) (len : ℕ) → len ≤ size_limit → length (head_text (no_part_head options closes date len)) ≤ 1360
-no_part_head-short options closes date len few = head_text-short (no_part_head options closes date len) (lit≤ tt) (lit< tt) (omega arith, lit≤ tt) options.added.short_age options.added.short_headers
+no_part_head-short options closes date len few = head_text-short (no_part_head options closes date len) (lit≤ tt) (lit< tt) (omega arith, lit≤ tt) no_age options.added.short_headers

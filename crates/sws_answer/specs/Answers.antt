@@ -10,6 +10,7 @@ use Rattle.sws_site.specs.declared.heads.ContentRange.{ContentRange}
 use Rattle.sws_site.specs.declared.heads.ContentRange.TheVariants.{Selected, NoSuch}
 use Rattle.sws_site.specs.Statuses.{row_of, code_of}
 use Rattle.sws_site.specs.ContentTypes.{media_type_of}
+use Rattle.sws_site.specs.Ages.{age_of}
 use Rattle.sws_site.specs.ResponseHeads.{head_text}
 use Rattle.sws_site.specs.Fixed.{status_page, told_type, told_body}
 use Rattle.sws_site.specs.Folders.{folder_path}
@@ -95,6 +96,11 @@ abbrev pub range_of : Option File → Selection → Option ContentRange
 range_of None selection = None
 range_of (Some file) selection = selected_range selection (length file.1)
 
+-- for how many seconds the file may be kept that the response is about, if that is said
+abbrev pub age_for : SiteState → Option File → Option ℕ
+age_for site None = None
+age_for site (Some file) = age_of site.options file.0
+
 -- where a head of such a status says that what is asked for is: the path of the folder of the index
 abbrev pub location_of : Bool → Option File → Option (List ℕ)
 location_of has_location index =
@@ -114,7 +120,7 @@ response site status file selection closes is_head =
         closes = closes;
         says_kept = site.options.keeps_alive;
         date = site.date;
-        max_age = site.options.added.max_age;
+        max_age = age_for site file;
         range = range_of file selection;
         media_type = content.media_type;
         len = length content.bytes;

@@ -167,6 +167,7 @@ fn send_part<'s>(
         status: Status::PartialContent,
         closes,
         date: site.http_date(),
+        max_age: page.max_age(),
         range: Some(ContentRange::Selected {
             first: first as u64,
             last: last as u64,
@@ -201,6 +202,7 @@ fn refuse_range<'s>(
         status: Status::RangeNotSatisfiable,
         closes,
         date: site.http_date(),
+        max_age: None,
         range: Some(ContentRange::NoSuch {
             len: page.body().len() as u64,
         }),

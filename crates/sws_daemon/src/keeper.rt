@@ -173,13 +173,14 @@ impl<'d, T: Wait + Clock> LaneKeeper<'d, T> {
         voice: Voice<'d, T>,
         common: &'d Common,
     ) -> Result<Self, AllocError> {
+        let site = shelf.site(threads)?;
         Ok(LaneKeeper {
             rt,
             threads,
             entrance,
             lane,
             shelf,
-            site: shelf.site(threads)?,
+            site,
             voice,
             common,
             number: 0,

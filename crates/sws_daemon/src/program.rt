@@ -24,7 +24,7 @@ pub fn command<T: AllocGlobal + Threads + Wait + Sync + Clock>(
 fn words(rt: &HostRuntime) -> Result<Vec<String>, WordsFault> {
     match env::args(rt) {
         Ok(args) => Ok(args.collect(rt.alloc())?),
-        Err(error) if error.kind() == ErrorKind::OutOfMemory => Err(WordsFault::Memory),
+        Err(error) if matches!(error.kind(), ErrorKind::OutOfMemory) => Err(WordsFault::Memory),
         Err(_) => Err(WordsFault::NotText),
     }
 }
@@ -98,6 +98,8 @@ fn refuse(rt: &HostRuntime, fault: &WordsFault) -> u8 {
         | WordsFault::Front(_)
         | WordsFault::HeaderParts(_)
         | WordsFault::Header(_, _)
+        | WordsFault::AgeParts(_)
+        | WordsFault::Age(_, _)
         | WordsFault::TypeParts(_)
         | WordsFault::Type(_, _) => {
             let _ = eprint!(rt; "{fault}");

@@ -1,7 +1,7 @@
 //! All lanes of the program, from the listener to the totals.
 ghost use Rattle.std.specs.Prelude.{◌≡◌};
-ghost use Rattle.sws_lane.specs.Terms.{AreTerms};
-ghost use Rattle.sws_daemon.specs.Orders.{terms_by};
+ghost use Rattle.sws_lane.specs.Terms.{AreTerms, IsBetween, IsInShape};
+ghost use Rattle.sws_daemon.specs.Orders.{shape_by, terms_by};
 ghost use Rattle.sws_daemon.specs.Sums.{sum_of};
 
 use crate::clerk::{LineClerk, LogDesk};
@@ -102,6 +102,22 @@ struct Job<'d, T: Wait + Clock> {
     ghost in_range: { AreTerms terms },
 }
 
+/// The shape that serves best by so many workers.
+fn shape_of(workers: u16) -> Shape
+    requires { IsBetween 1 64 workers }
+    ensures range { IsInShape result }
+    ensures exactly { result ≡ shape_by workers }
+{
+    let is_alone = workers == 1;
+    Shape {
+        cores: workers,
+        shards: if is_alone { 1 } else { 64 },
+        batch: 10,
+        steal_cost: if is_alone { 20 } else { 9 },
+        group: 4,
+    }
+}
+
 /// How generations are served: by at least one worker, and at most as many as a run has, in the
 /// shape that serves best by so many, and with at least one connection.
 fn terms_of(order: &Order) -> Terms
@@ -109,18 +125,10 @@ fn terms_of(order: &Order) -> Terms
     ensures exactly { result ≡ terms_by order.now }
 {
     let cores = order.workers.max(1).min(64);
-    let is_alone = cores == 1;
-    let shape = Shape {
-        cores,
-        shards: if is_alone { 1 } else { 64 },
-        batch: 10,
-        steal_cost: if is_alone { 20 } else { 9 },
-        group: 4,
-    };
     Terms {
         port: order.listen.port(),
         connections: order.connections.max(1).min(1024),
-        shape,
+        shape: shape_of(cores),
         log: order.log.is_some(),
     }
 }
@@ -211,6 +219,75 @@ fn guests_of(rt: &HostRuntime, order: &Order) -> Result<Option<Arc<Guests>>, All
     }
 }
 
+/// What an order says of a house, beside what its lanes count.
+#[derive(Drop)]
+struct Plan {
+    origin: Origin,
+    stop: Option<StopFile>,
+    reload: Option<ReloadFile>,
+    look: u64,
+    stops_unlogged: bool,
+}
+
+impl Plan {
+    /// The plan of the order. Whoever asks by the reload file from now on sees what the folder has
+    /// then.
+    fn of(rt: &HostRuntime, order: Order) -> Plan {
+        let reload = order.reload_file.map(|path| ReloadFile::new(rt, path));
+        let stop = order.stop_file.map(StopFile::new);
+        Plan {
+            origin: Origin {
+                path: order.folder,
+                hidden: order.hidden,
+                answers: order.answers,
+                input: order.input,
+                max_files: order.max_files,
+                max_bytes: order.max_bytes,
+                added: order.added,
+            },
+            stop,
+            reload,
+            look: order.look,
+            stops_unlogged: order.log_fault == LogFault::Stop,
+        }
+    }
+}
+
+/// The site of a house, and its door.
+#[derive(Drop)]
+struct Premises {
+    shelf: Shelf,
+    door: Door,
+}
+
+impl Premises {
+    /// The folder is loaded, and the door is open for so many lanes, of which so many may be behind
+    /// it.
+    fn open<T: Wait>(
+        rt: &HostRuntime,
+        origin: Origin,
+        lanes: u16,
+        accepting: u16,
+        voice: &Voice<'_, T>,
+    ) -> Result<Premises, ServeFault> {
+        let shelf = load(rt, origin, voice)?;
+        let door = Door::new(rt.alloc(), usize::from(lanes), usize::from(accepting))?;
+        Ok(Premises { shelf, door })
+    }
+}
+
+/// Loads a folder, and says what is to be noted of that.
+fn load<T: Wait>(
+    rt: &HostRuntime,
+    origin: Origin,
+    voice: &Voice<'_, T>,
+) -> Result<Shelf, LoadFault> {
+    let mut notes = Notes::new(rt.alloc());
+    let shelf = Shelf::new(rt, origin, &mut notes);
+    voice.warn_of_notes(&notes);
+    shelf
+}
+
 impl House {
     /// The folder of the order is loaded, and its door is open.
     ///
@@ -223,31 +300,24 @@ impl House {
         voice: &Voice<'_, T>,
     ) -> Result<House, ServeFault> {
         let guests = guests_of(rt, &order)?;
-        // Whoever asks from now on sees what the folder has then.
-        let reload = order.reload_file.map(|path| ReloadFile::new(rt, path));
-        let mut notes = Notes::new(rt.alloc());
-        let origin = Origin {
-            path: order.folder,
-            hidden: order.hidden,
-            answers: order.answers,
-            input: order.input,
-            max_files: order.max_files,
-            max_bytes: order.max_bytes,
-            added: order.added,
-        };
-        let shelf = Shelf::new(rt, origin, &mut notes);
-        voice.warn_of_notes(&notes);
-        let shelf = shelf?;
-        let lanes = usize::from(order.lanes);
-        let door = Door::new(rt.alloc(), lanes, usize::from(order.accepting))?;
+        let (lanes, accepting) = (order.lanes, order.accepting);
+        let Plan {
+            origin,
+            stop,
+            reload,
+            look,
+            stops_unlogged,
+        } = Plan::of(rt, order);
+        let common = Common::new(lanes, accepting, guests);
+        let Premises { shelf, door } = Premises::open(rt, origin, lanes, accepting, voice)?;
         Ok(House {
             shelf,
             door,
-            stop: order.stop_file.map(StopFile::new),
+            stop,
             reload,
-            look: order.look,
-            stops_unlogged: order.log_fault == LogFault::Stop,
-            common: Common::new(order.lanes, order.accepting, guests),
+            look,
+            stops_unlogged,
+            common,
             curfew: Curfew::new(),
         })
     }
@@ -265,6 +335,21 @@ impl House {
             grace,
         }
     }
+}
+
+/// The lane of this number.
+fn lane_of<'d, T: Wait + Clock>(
+    rt: &'d HostRuntime,
+    threads: &'d T,
+    house: &'d House,
+    entrance: Entrance<'d>,
+    voice: &Voice<'d, T>,
+    number: usize,
+) -> Result<Lane<LaneWorld<'d>, LaneKeeper<'d, T>>, AllocError> {
+    let (shelf, common) = (&house.shelf, &house.common);
+    let keeper = LaneKeeper::new(rt, threads, entrance, number, shelf, voice.again(), common)?;
+    let world = LaneWorld::of_requests(rt, entrance, number, common.guests())?;
+    Ok(Lane::new(world, keeper))
 }
 
 /// A lane for each number below this, at work by these terms.
@@ -286,18 +371,7 @@ fn jobs_of<'d, T: Wait + Clock>(
 {
     let mut jobs = Vec::new(rt.alloc());
     'lanes: for number in 0..lanes {
-        let number = usize::from(number);
-        let keeper = LaneKeeper::new(
-            rt,
-            threads,
-            entrance,
-            number,
-            &house.shelf,
-            voice.again(),
-            &house.common,
-        )?;
-        let world = LaneWorld::of_requests(rt, entrance, number, house.common.guests())?;
-        let lane = Lane::new(world, keeper);
+        let lane = lane_of(rt, threads, house, entrance, voice, usize::from(number))?;
         if jobs.push(Job { lane, terms, desk }).is_err() {
             return Err(ServeFault::Memory);
         }
@@ -338,6 +412,12 @@ fn run_house<'d, T: AllocGlobal + Threads + Wait + Sync + Clock>(
     );
 }
 
+/// Where it listens, which doesn't block from now on.
+fn address_of(listener: &TcpListener) -> io::Result<SocketAddr> {
+    listener.set_nonblocking(true)?;
+    listener.local_addr()
+}
+
 /// Where they listen, none of which blocks from now on.
 fn addresses_of(
     rt: &HostRuntime,
@@ -345,8 +425,8 @@ fn addresses_of(
 ) -> Result<Vec<SocketAddr>, ServeFault> {
     let mut addresses = Vec::new(rt.alloc());
     for listener in listeners {
-        listener.set_nonblocking(true)?;
-        if addresses.push(listener.local_addr()?).is_err() {
+        let address = address_of(listener)?;
+        if addresses.push(address).is_err() {
             return Err(ServeFault::Memory);
         }
     }
@@ -378,14 +458,26 @@ pub fn serve_at<'x, T: AllocGlobal + Threads + Wait + Sync + Clock>(
     let (age, grace) = (order.age, order.grace);
     let house = House::new(rt, order, &voice)?;
     let entrance = house.entrance(listeners, age, grace);
-    let mut jobs = jobs_of(rt, threads, &house, entrance, &voice, lanes, terms, desk)?;
+    let jobs = jobs_of(rt, threads, &house, entrance, &voice, lanes, terms, desk)?;
     voice.tell_of_start(&addresses, lanes, accepting, terms.shape.cores);
-    run_house(rt, threads, &house, &voice, jobs.as_mut_slice());
-    Ok(Served {
+    Ok(serve_all(rt, threads, &house, &voice, jobs))
+}
+
+/// Runs all lanes to their ends, and answers what has come of them.
+fn serve_all<'d, T: AllocGlobal + Threads + Wait + Sync + Clock>(
+    rt: &'d HostRuntime,
+    threads: &'d T,
+    house: &'d House,
+    voice: &Voice<'d, T>,
+    jobs: Vec<Job<'d, T>>,
+) -> Served {
+    let mut jobs = jobs;
+    run_house(rt, threads, house, voice, jobs.as_mut_slice());
+    Served {
         totals: sum_up(&jobs),
         refused: house.common.refused(),
         fault: house.common.fault(),
-    })
+    }
 }
 
 /// What has come of all lanes.

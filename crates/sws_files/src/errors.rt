@@ -4,5 +4,5 @@ use std::io::{self, ErrorKind};
 
 /// Whether an allocation of this program was refused; every other error is one of the machine.
 pub fn is_want_of_memory(error: &io::Error) -> bool {
-    error.kind() == ErrorKind::OutOfMemory && error.raw_os_error().is_none()
+    matches!(error.kind(), ErrorKind::OutOfMemory) && error.raw_os_error().is_none()
 }

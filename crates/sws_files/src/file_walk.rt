@@ -101,7 +101,7 @@ fn add_level(levels: &mut Vec<Level>, level: Level) -> io::Result<()> {
 
 /// Why an entry isn't listed.
 fn cause_of(error: io::Error) -> Cause {
-    if error.kind() == ErrorKind::InvalidFilename {
+    if matches!(error.kind(), ErrorKind::InvalidFilename) {
         return Cause::Name;
     }
     Cause::Machine(error)

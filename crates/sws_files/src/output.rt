@@ -43,7 +43,7 @@ fn write_whole<W: Write>(writer: &mut W, bytes: &[u8]) -> bool
                 }
                 at += count;
             }
-            Err(error) if error.kind() == ErrorKind::Interrupted => {}
+            Err(error) if matches!(error.kind(), ErrorKind::Interrupted) => {}
             Err(_) => return false,
         }
     }

@@ -41,7 +41,7 @@ fn read_through_signals<R: Read>(reader: &mut R, into: &mut [u8]) -> io::Result<
 {
     'tries: for _ in 0..MAX_TRIES {
         match reader.read(into) {
-            Err(error) if error.kind() == ErrorKind::Interrupted => {}
+            Err(error) if matches!(error.kind(), ErrorKind::Interrupted) => {}
             answer => return answer,
         }
     }

@@ -60,7 +60,7 @@ impl Cause {
     pub fn is_lasting(&self) -> bool {
         match self {
             Cause::Machine(error) | Cause::Listing(_, error) => {
-                error.kind() == ErrorKind::PermissionDenied
+                matches!(error.kind(), ErrorKind::PermissionDenied)
             }
             Cause::Name | Cause::Depth => true,
             Cause::Replaced => false,
@@ -71,11 +71,11 @@ impl Cause {
 impl fmt::Display for Cause {
     fn fmt<W: fmt::Write>(&self, f: &mut fmt::Formatter<W>) -> fmt::Result {
         match self {
-            Cause::Machine(error) => write!(f, "{error}"),
+            Cause::Machine(error) => error.fmt(f),
             Cause::Listing(path, error) => write!(f, "{path}, by which it is listed: {error}"),
-            Cause::Name => write!(f, "a name in it isn't UTF-8"),
-            Cause::Depth => write!(f, "it lies more than 32 folders deep"),
-            Cause::Replaced => write!(f, "another file has taken its place"),
+            Cause::Name => f.write_str("a name in it isn't UTF-8"),
+            Cause::Depth => f.write_str("it lies more than 32 folders deep"),
+            Cause::Replaced => f.write_str("another file has taken its place"),
         }
     }
 }

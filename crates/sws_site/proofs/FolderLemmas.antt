@@ -85,7 +85,7 @@ moved_head location closes says_kept max_age headers = record {
 
 -- without its location
 abbrev pub unplaced : SiteOptions → Bool → ResponseHead
-unplaced options closes = moved_head None closes options.keeps_alive options.added.max_age options.added.headers
+unplaced options closes = moved_head None closes options.keeps_alive None options.added.headers
 
 pub unplaced-long : (options : SiteOptions) (closes : Bool) → 45 ≤ length (head_text (unplaced options closes))
 unplaced-long options closes =
@@ -119,4 +119,4 @@ unfolding redirect_head fixed_body
 redirect_head-is options closes path lines head is_lines is_head =
     is_head
     ∙ ap (λ (x : List ℕ). (((take 45 x ++ codes "Location: ") ++ path) ++ line_end) ++ drop 45 x) is_lines
-    ∙ placed closes options.keeps_alive options.added.max_age options.added.headers path
+    ∙ placed closes options.keeps_alive None options.added.headers path

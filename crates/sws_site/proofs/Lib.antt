@@ -1,6 +1,7 @@
 pub mod LimitLemmas
 pub mod FileLemmas
 pub mod HeadLengthsLemmas
+pub mod AgeLemmas
 mod ContentTypeLemmas
 mod HeaderLemmas
 mod HeadLemmas

@@ -6,9 +6,10 @@ use Rattle.sws_site.specs.declared.options.SiteOptions.{SiteOptions}
 use Rattle.sws_site.specs.declared.built_responses.BuiltResponse.{BuiltResponse}
 use Rattle.sws_site.specs.ResponseHeads.{head_text}
 
--- the two heads are those of such a response with this body, of a site with these options
-pub record IsBuilt (options : SiteOptions) (status : Status) (date : Option HttpDate)
-    (media_type : List ℕ) (response : BuiltResponse) : Type 0 where
+-- the two heads are those of such a response with this body, which may be kept for so many seconds,
+-- of a site with these options
+pub record IsBuilt (options : SiteOptions) (status : Status) (max_age : Option ℕ)
+    (date : Option HttpDate) (media_type : List ℕ) (response : BuiltResponse) : Type 0 where
   pub open_head : response.open_head.items
       ≡ head_text (record {
         status = status;
@@ -16,7 +17,7 @@ pub record IsBuilt (options : SiteOptions) (status : Status) (date : Option Http
         closes = false;
         says_kept = options.keeps_alive;
         date = date;
-        max_age = options.added.max_age;
+        max_age = max_age;
         range = None;
         media_type = media_type;
         len = length response.body.items;
@@ -29,7 +30,7 @@ pub record IsBuilt (options : SiteOptions) (status : Status) (date : Option Http
         closes = true;
         says_kept = options.keeps_alive;
         date = date;
-        max_age = options.added.max_age;
+        max_age = max_age;
         range = None;
         media_type = media_type;
         len = length response.body.items;

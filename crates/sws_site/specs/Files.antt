@@ -5,6 +5,7 @@ use Rattle.httpdate.specs.declared.date.HttpDate.{HttpDate}
 use Rattle.sws_site.specs.declared.statuses.Status.TheVariants.{Success, NotModified}
 use Rattle.sws_site.specs.declared.options.SiteOptions.{SiteOptions}
 use Rattle.sws_site.specs.ContentTypes.{media_type_of}
+use Rattle.sws_site.specs.Ages.{age_of}
 use Rattle.sws_site.specs.ResponseHeads.{head_text}
 
 -- a name and the contents
@@ -24,7 +25,7 @@ file_head options date file closes =
       closes = closes;
       says_kept = options.keeps_alive;
       date = date;
-      max_age = options.added.max_age;
+      max_age = age_of options file.0;
       range = None;
       media_type = media_type_of options file.0;
       len = length file.1;
@@ -32,15 +33,15 @@ file_head options date file closes =
     })
 
 -- the head of the response that a file of such a site was not modified since
-unfoldable pub not_modified_head : SiteOptions → Option HttpDate → Bool → List ℕ
-not_modified_head options date closes =
+unfoldable pub not_modified_head : SiteOptions → Option HttpDate → File → Bool → List ℕ
+not_modified_head options date file closes =
     head_text (record {
       status = NotModified;
       location = None;
       closes = closes;
       says_kept = options.keeps_alive;
       date = date;
-      max_age = options.added.max_age;
+      max_age = age_of options file.0;
       range = None;
       media_type = [];
       len = 0;

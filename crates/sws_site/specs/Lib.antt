@@ -1,6 +1,8 @@
 pub mod Statuses
 pub mod HeaderFields
 pub mod OwnTypes
+pub mod OwnAges
+pub mod Ages
 pub mod ContentTypes
 pub mod ResponseHeads
 pub mod Fixed

@@ -10,14 +10,16 @@ use Rattle.sws_site.specs.declared.additions.Additions.{Additions}
 pub no_age : ForSome None (λ seconds. seconds < 2 ^ 32)
 no_age seconds given = absurd (cc)
 
--- its owner adds no line and no media type
+-- its owner adds no line, no media type and no age
 abbrev pub nothing_added : Additions
 nothing_added = record {
   headers = [];
   types = [];
+  ages = [];
   max_age = None;
   short_headers = lit≤ tt;
   short_types = refl;
+  short_ages = refl;
   short_age = no_age;
 }
 

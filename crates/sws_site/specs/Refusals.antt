@@ -13,7 +13,7 @@ use Rattle.sws_site.specs.Fixed.{page_for, told_type, told_body}
 pub record IsRefusal (options : SiteOptions) (page : Option File) (status : Status)
     (response : BuiltResponse) : Type 0 where
   pub body : response.body.items ≡ told_body (page_for page status) status
-  pub heads : IsBuilt options status None (told_type options (page_for page status)) response
+  pub heads : IsBuilt options status None None (told_type options (page_for page status)) response
 
 -- each refusal is that of its status
 pub record AreRefusals (options : SiteOptions) (page : Option File) (refusals : Refusals)

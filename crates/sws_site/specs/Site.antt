@@ -24,7 +24,7 @@ found_in site name =
 abbrev pub page_head : PageState → Bool → Bool → List ℕ
 page_head page changed closes =
     if changed then file_head page.options page.date page.file closes
-    else not_modified_head page.options page.date closes
+    else not_modified_head page.options page.date page.file closes
 
 -- the last second of the year 9999, in seconds after the beginning of 1970, and so the last that a
 -- date shows, which has four digits for the year (RFC 9110, section 5.6.7)

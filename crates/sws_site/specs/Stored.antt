@@ -8,10 +8,12 @@ use Rattle.std.specs.declared.alloc.Global.{Global}
 use Rattle.httpdate.specs.declared.date.HttpDate.{HttpDate}
 use Rattle.sws_link.specs.Told.{FolderContents}
 use Rattle.sws_site.specs.declared.site_faults.SiteFault.{SiteFault}
-use Rattle.sws_site.specs.declared.statuses.Status.TheVariants.{Success}
+use Rattle.sws_site.specs.declared.statuses.Status.TheVariants.{Success, NotModified}
 use Rattle.sws_site.specs.declared.options.SiteOptions.{SiteOptions}
 use Rattle.sws_site.specs.declared.stored.StoredFile.{StoredFile}
+use Rattle.sws_site.specs.declared.built_responses.BuiltResponse.{BuiltResponse}
 use Rattle.sws_site.specs.ContentTypes.{media_type_of}
+use Rattle.sws_site.specs.Ages.{age_of}
 use Rattle.sws_site.specs.Files.{File}
 use Rattle.sws_site.specs.Loading.{Loads}
 use Rattle.sws_site.specs.BuiltResponses.{IsBuilt}
@@ -26,11 +28,23 @@ file_of stored = (stored.name.items, stored.response.body.items)
 abbrev pub files_of : List StoredFile → List File
 files_of stored = map file_of stored
 
+-- of a file of this name: the response that it was not modified, where it has an age of its own;
+-- else that of all others stands for it
+abbrev pub HasNotModified
+    : SiteOptions → Option HttpDate → List ℕ → Option BuiltResponse → Type 0
+HasNotModified options date name None = age_of options name ≡ options.added.max_age
+HasNotModified options date name (Some response) =
+    IsBuilt options NotModified (age_of options name) date [] response
+    × (response.body.items ≡ [])
+
 -- its heads are those of a site with these options and of this date, and so is its redirect
 pub record HasHeads (options : SiteOptions) (date : Option HttpDate) (stored : StoredFile)
     : Type 0 where
   pub response
-      : IsBuilt options Success date (media_type_of options stored.name.items) stored.response
+      : IsBuilt options Success (age_of options stored.name.items) date
+      (media_type_of options stored.name.items) stored.response
+  pub max_age : stored.max_age ≡ age_of options stored.name.items
+  pub not_modified : HasNotModified options date stored.name.items stored.not_modified
   pub redirect
       : HasRedirect options (redirects_to options stored.name.items) (folder_path stored.name.items)
       stored.redirect

@@ -18,6 +18,8 @@ state_of page = record {
 -- the heads that a page lends were built for its file and its date
 pub record IsOfSite (page : Inside) : Type 0 where
   pub heads : HasHeads page.options.now page.date page.file.now
-  pub not_modified : IsBuilt page.options.now NotModified page.date [] page.not_modified.now
+  pub not_modified
+      : IsBuilt page.options.now NotModified page.options.now.added.max_age page.date []
+      page.not_modified.now
   pub no_content : page.not_modified.now.body.items ≡ []
   pub short : length page.file.now.response.body.items ≤ size_limit

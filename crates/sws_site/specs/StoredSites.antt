@@ -22,7 +22,7 @@ pub record IsStored (site : Inside) : Type 0 where
   pub limits : IsWithinOptions site.options (files_of site.files.items)
   pub heads : AllHaveHeads site.options site.date site.files.items
   pub places : FindsPlaces site.files.items site.places
-  pub not_modified : IsBuilt site.options NotModified site.date [] site.not_modified
+  pub not_modified : IsBuilt site.options NotModified site.options.added.max_age site.date [] site.not_modified
   pub no_content : site.not_modified.body.items ≡ []
   pub refusals
       : AreRefusals site.options (not_found_page site.options (files_of site.files.items))

@@ -3,9 +3,12 @@ ghost use Rattle.std.specs.Prelude.{◌≡◌, ◌≤◌, ◌<◌, ◌^◌, true
 ghost use Rattle.std.specs.Option.{ForSome};
 ghost use Rattle.sws_site.specs.HeaderFields.{header_limit};
 ghost use Rattle.sws_site.specs.OwnTypes.{are_short_types};
+ghost use Rattle.sws_site.specs.OwnAges.{are_short_ages};
 
+use crate::age_faults::AgeFault;
 use crate::header_faults::HeaderFault;
 use crate::header_lines::HeaderLines;
+use crate::own_ages::OwnAges;
 use crate::own_types::OwnTypes;
 use crate::type_faults::TypeFault;
 use std::alloc::{AllocError, Global};
@@ -18,10 +21,14 @@ pub struct Additions {
     /// The media types that go before those that the site knows.
     pub types: OwnTypes,
     /// For how many seconds a response with a file, or with a part of one, may be kept, and so may
-    /// one that says that the file was not modified (RFC 9111, section 5.2.2.1).
+    /// one that says that the file was not modified, by the end of the file's name, of which the
+    /// longest decides (RFC 9111, section 5.2.2.1).
+    pub ages: OwnAges,
+    /// For how many seconds so where the name has none of these ends.
     pub max_age: Option<u32>,
     pub ghost short_headers: { length headers ≤ header_limit },
     pub ghost short_types: { are_short_types types ≡ true },
+    pub ghost short_ages: { are_short_ages ages ≡ true },
     pub ghost short_age: { ForSome max_age (λ seconds. seconds < 2 ^ 32) },
 }
 
@@ -30,6 +37,7 @@ impl Additions {
     ghost use Rattle.sws_site.specs.HeaderFields.{header_fault, header_text, IsHeaderFault};
     ghost use Rattle.sws_site.specs.Options.{nothing_added};
     ghost use Rattle.sws_site.specs.OwnTypes.{type_fault, IsTypeFault};
+    ghost use Rattle.sws_site.specs.OwnAges.{age_fault, IsAgeFault};
 
     /// Nothing.
     pub fn none(alloc: Global) -> Additions
@@ -38,6 +46,7 @@ impl Additions {
         Additions {
             headers: HeaderLines::none(alloc),
             types: OwnTypes::none(alloc),
+            ages: OwnAges::none(alloc),
             max_age: None,
         }
     }
@@ -61,6 +70,7 @@ impl Additions {
         ensures cause { IfErr result
             (IsHeaderFault (header_fault self.old.headers name.now value.now)) }
         ensures types { self.new.types ≡ self.old.types }
+        ensures ages { self.new.ages ≡ self.old.ages }
         ensures max_age { self.new.max_age ≡ self.old.max_age }
     {
         self.headers.add(alloc, name, value)
@@ -85,16 +95,37 @@ impl Additions {
         ensures kept { OnErr result (self.new.types ≡ self.old.types) }
         ensures cause { IfErr result (IsTypeFault (type_fault extension.now media_type.now)) }
         ensures headers { self.new.headers ≡ self.old.headers }
+        ensures ages { self.new.ages ≡ self.old.ages }
         ensures max_age { self.new.max_age ≡ self.old.max_age }
     {
         self.types.add(alloc, extension, media_type)
     }
 
-    /// Lets responses be kept for so many seconds.
+    /// Lets files be kept for so many seconds whose names have this end, and no longer end that is
+    /// given.
+    ///
+    /// # Errors
+    ///
+    /// The first cause that holds, in the order `BadEnd`, `GivenTwice`, `TooMany`; or `Memory`,
+    /// where an allocation was refused. Then nothing is added.
+    pub fn keep_by_end(&mut self, alloc: Global, end: &[u8], seconds: u32) -> Result<(), AgeFault>
+        ensures added { OnOk result (self.new.ages ≡ self.old.ages ++ (end.now, seconds) ∷ []) }
+        ensures sound { OnOk result (age_fault self.old.ages end.now ≡ None) }
+        ensures kept { OnErr result (self.new.ages ≡ self.old.ages) }
+        ensures cause { IfErr result (IsAgeFault (age_fault self.old.ages end.now)) }
+        ensures headers { self.new.headers ≡ self.old.headers }
+        ensures types { self.new.types ≡ self.old.types }
+        ensures max_age { self.new.max_age ≡ self.old.max_age }
+    {
+        self.ages.add(alloc, end, seconds)
+    }
+
+    /// Lets all other files be kept for so many seconds.
     pub fn keep_for(&mut self, seconds: u32)
         ensures max_age { self.new.max_age ≡ Some seconds }
         ensures headers { self.new.headers ≡ self.old.headers }
         ensures types { self.new.types ≡ self.old.types }
+        ensures ages { self.new.ages ≡ self.old.ages }
     {
         self.max_age = Some(seconds);
     }
@@ -106,6 +137,7 @@ impl Additions {
         Ok(Additions {
             headers: self.headers.copy(alloc)?,
             types: self.types.copy(alloc)?,
+            ages: self.ages.copy(alloc)?,
             max_age: self.max_age,
         })
     }

@@ -1,5 +1,6 @@
 //! A response that is built once and sent many times.
-ghost use Rattle.std.specs.Prelude.{◌≡◌, ◌≤◌, IfOk, length};
+ghost use Rattle.std.specs.Prelude.{◌≡◌, ◌≤◌, ◌<◌, ◌^◌, IfOk, length};
+ghost use Rattle.std.specs.Option.{ForSome};
 ghost use Rattle.sws_site.specs.BuiltResponses.{IsBuilt, built_head};
 
 use crate::heads::{HeadParts, MAX_MEDIA_TYPE, write_head};
@@ -17,18 +18,20 @@ pub(crate) struct BuiltResponse {
 }
 
 impl BuiltResponse {
-    /// The response of this status with a body of this media type, of a site with these options and
-    /// of this date.
+    /// The response of this status with a body of this media type, which may be kept for so many
+    /// seconds, of a site with these options and of this date.
     pub(crate) fn new(
         alloc: Global,
         options: &SiteOptions,
         status: Status,
+        max_age: Option<u32>,
         date: &Option<HttpDate>,
         media_type: &[u8],
         body: Vec<u8>,
     ) -> Result<BuiltResponse, AllocError>
-        requires { length media_type.now ≤ MAX_MEDIA_TYPE }
-        ensures built { IfOk result (IsBuilt options.now status date.now media_type.now) }
+        requires age { ForSome max_age (λ seconds. seconds < 2 ^ 32) }
+        requires media_type { length media_type.now ≤ MAX_MEDIA_TYPE }
+        ensures built { IfOk result (IsBuilt options.now status max_age date.now media_type.now) }
         ensures body { IfOk result (λ response. response.body.items ≡ body.items) }
     {
         let open = HeadParts {
@@ -36,6 +39,7 @@ impl BuiltResponse {
             status,
             closes: false,
             date,
+            max_age,
             range: None,
             media_type,
             len: body.len(),

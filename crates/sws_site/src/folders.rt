@@ -62,6 +62,7 @@ fn redirect_head(
         status: Status::MovedPermanently,
         closes,
         date: &None,
+        max_age: None,
         range: None,
         media_type: b"text/plain",
         len: MOVED.len(),

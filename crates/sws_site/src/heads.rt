@@ -42,6 +42,8 @@ pub struct HeadParts<'a> {
     pub closes: bool,
     /// When the site was last modified, if that is known.
     pub date: &'a Option<HttpDate>,
+    /// For how many seconds a file may be kept, if that is said.
+    pub max_age: Option<u32>,
     /// Which part of a file the response is about, if it is about a part.
     pub range: Option<ContentRange>,
     /// The media type of the content.
@@ -190,7 +192,7 @@ pub fn write_head(parts: &HeadParts<'_>) -> OwnHead
     add_line(&mut head, b"Server: ", b"sws");
     add_connection(&mut head, parts.closes, parts.options.keeps_alive);
     add_last_modified(&mut head, row.is_dated, parts.date);
-    add_cache(&mut head, row.is_dated, &parts.options.added.max_age);
+    add_cache(&mut head, row.is_dated, &parts.max_age);
     add_allow(&mut head, row.lists_methods);
     add_range(&mut head, row.has_range, &parts.range);
     add_content(&mut head, row.body, parts.media_type, parts.len);

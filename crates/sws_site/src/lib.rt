@@ -10,8 +10,8 @@
 //!
 //! [`SiteOptions`] say what a site does beyond a plain one, which [`Site::load`] makes, and how much
 //! it holds. Among them
-//! are [`Additions`]: header lines that stand in every head, media types, and for how long responses
-//! may be kept.
+//! are [`Additions`]: header lines that stand in every head, media types, and for how long files may
+//! be kept, by the ends of their names.
 //!
 //! ```text
 //! let site = Site::load(alloc, &mut folder, Some(784111777))?;
@@ -26,6 +26,7 @@
 #![tactic(auto)]
 
 mod additions;
+mod age_faults;
 mod built_responses;
 mod content_types;
 mod folders;
@@ -36,6 +37,7 @@ mod heads;
 mod loading;
 mod more_types;
 mod options;
+mod own_ages;
 mod own_types;
 mod pages;
 mod refusals;
@@ -47,12 +49,14 @@ mod tokens;
 mod type_faults;
 
 pub use additions::Additions;
+pub use age_faults::AgeFault;
 pub use content_types::content_type_of;
 pub use head_kinds::HeadKind;
 pub use header_faults::HeaderFault;
 pub use header_lines::HeaderLines;
 pub use heads::{ContentRange, HeadParts, MAX_MEDIA_TYPE, write_head};
 pub use options::SiteOptions;
+pub use own_ages::OwnAges;
 pub use own_types::OwnTypes;
 pub use pages::Page;
 pub use site_faults::SiteFault;

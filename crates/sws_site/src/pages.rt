@@ -1,5 +1,7 @@
 //! One file of a site.
-ghost use Rattle.std.specs.Prelude.{◌≡◌, ◌≤◌, Option, length, option_map};
+ghost use Rattle.std.specs.Prelude.{◌≡◌, ◌≤◌, ◌<◌, ◌^◌, Option, length, option_map};
+ghost use Rattle.std.specs.Option.{ForSome};
+ghost use Rattle.sws_site.specs.Ages.{age_of};
 ghost use Rattle.sws_site.specs.ContentTypes.{media_type_of};
 ghost use Rattle.sws_site.specs.Folders.{redirect_of};
 ghost use Rattle.sws_site.specs.Limits.{size_limit};
@@ -10,7 +12,7 @@ use crate::content_types::media_type_of;
 use crate::head_kinds::HeadKind;
 use crate::heads::MAX_MEDIA_TYPE;
 use crate::options::SiteOptions;
-use crate::stored::StoredFile;
+use crate::stored::{StoredFile, own_or};
 use httpdate::HttpDate;
 use std::marker::Model;
 
@@ -53,6 +55,14 @@ impl<'s> Page<'s> {
         media_type_of(self.options, &self.file.name)
     }
 
+    /// For how many seconds the file may be kept, by the end of its name, if that is said.
+    pub fn max_age(&self) -> Option<u32>
+        ensures age { result ≡ age_of self.now.options self.now.file.0 }
+        ensures short { ForSome result (λ seconds. seconds < 2 ^ 32) }
+    {
+        self.file.max_age
+    }
+
     /// The head of the response to a request for the file.
     pub fn head(&self, kind: HeadKind) -> &'s [u8]
         ensures { result.now ≡ page_head self.now kind.changed kind.closes }
@@ -60,7 +70,7 @@ impl<'s> Page<'s> {
         if kind.changed {
             return self.file.response.head(kind.closes);
         }
-        self.not_modified.head(kind.closes)
+        own_or(&self.file.not_modified, self.not_modified).head(kind.closes)
     }
 
     /// The head and the body of the response that redirects to the folder whose index this file is,

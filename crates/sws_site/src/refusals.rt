@@ -47,13 +47,13 @@ fn page_for<'f>(page: Option<&'f StoredFile>, status: Status) -> Option<&'f Stor
 /// The response of this status whose body is a line that tells it.
 fn line(alloc: Global, options: &SiteOptions, status: Status) -> Result<BuiltResponse, AllocError>
     ensures body { IfOk result (λ response. response.body.items ≡ fixed_body status) }
-    ensures heads { IfOk result (IsBuilt options.now status None plain_text) }
+    ensures heads { IfOk result (IsBuilt options.now status None None plain_text) }
 {
     let mut body = Vec::new(alloc);
     body.extend_from_slice(status.row().text)?;
     body.extend_from_slice(b"\n")?;
     body.shrink_to_fit();
-    let response = BuiltResponse::new(alloc, options, status, &None, b"text/plain", body)?;
+    let response = BuiltResponse::new(alloc, options, status, None, &None, b"text/plain", body)?;
     Ok(response)
 }
 
@@ -65,12 +65,12 @@ fn copy(
     status: Status,
 ) -> Result<BuiltResponse, AllocError>
     ensures body { IfOk result (λ response. response.body.items ≡ (file_of page.now).1) }
-    ensures heads { IfOk result (IsBuilt options.now status None
+    ensures heads { IfOk result (IsBuilt options.now status None None
         (media_type_of options.now (file_of page.now).0)) }
 {
     let media_type = media_type_of(options, &page.name);
     let body = Vec::from_slice(alloc, &page.response.body)?;
-    let response = BuiltResponse::new(alloc, options, status, &None, media_type, body)?;
+    let response = BuiltResponse::new(alloc, options, status, None, &None, media_type, body)?;
     Ok(response)
 }
 

@@ -170,6 +170,7 @@ impl Site {
             alloc,
             &options,
             Status::NotModified,
+            options.added.max_age,
             &date,
             b"",
             Vec::new(alloc),

@@ -2,12 +2,12 @@
 ghost use Rattle.std.specs.Prelude.{◌≤◌, length};
 
 use crate::order::WordsFault;
-use clap::{Arg, ArgAction, ArgMatches, Command, value_parser};
+use clap::{Arg, ArgAction, ArgMatches, Command};
 use std::alloc::{AllocError, Global};
-use sws_site::{Additions, HeaderFault, TypeFault};
+use sws_site::{Additions, AgeFault, HeaderFault, TypeFault};
 
 /// How many seconds a response may be kept at most, as RFC 9111, section 1.2.2 has it: 2^31 - 1.
-const LONGEST_AGE: i64 = 2_147_483_647;
+const LONGEST_AGE: u32 = 2_147_483_647;
 
 /// An option with a value.
 fn option<'a>(alloc: Global, name: &'a str, value: &'a str, help: &'a str) -> Arg<'a> {
@@ -32,11 +32,10 @@ pub(crate) fn with_additions<'a>(
     let cache = option(
         alloc,
         "cache",
-        "SECONDS",
-        "How long clients may keep a file without asking (Cache-Control: max-age)",
+        "[END=]SECONDS",
+        "How long clients may keep files, or those whose names end so (Cache-Control: max-age); may stand several times",
     )
-    .value_parser(value_parser!(u32).range(0..=LONGEST_AGE))
-    .action(ArgAction::Set);
+    .action(ArgAction::Append);
     let types = option(
         alloc,
         "type",
@@ -94,6 +93,47 @@ fn add_type(alloc: Global, added: &mut Additions, word: &str) -> Result<(), Word
     }
 }
 
+/// The seconds that a word says, where they are no more than an age has.
+fn seconds_of(word: &str) -> Option<u32> {
+    match word.parse::<u32>() {
+        Ok(seconds) if seconds <= LONGEST_AGE => Some(seconds),
+        _ => None,
+    }
+}
+
+/// Lets the files be kept for so long whose names have the end, or all others where there is none.
+fn keep(
+    alloc: Global,
+    added: &mut Additions,
+    end: Option<&str>,
+    seconds: u32,
+) -> Result<(), AgeFault> {
+    match end {
+        Some(end) => added.keep_by_end(alloc, end.as_bytes(), seconds),
+        None if added.max_age.is_some() => Err(AgeFault::GivenTwice),
+        None => {
+            added.keep_for(seconds);
+            Ok(())
+        }
+    }
+}
+
+/// Adds the age that this word says.
+fn add_age(alloc: Global, added: &mut Additions, word: &str) -> Result<(), WordsFault> {
+    let (end, seconds) = match word.rsplit_once('=') {
+        Some((end, seconds)) => (Some(end), seconds),
+        None => (None, word),
+    };
+    let Some(seconds) = seconds_of(seconds) else {
+        return Err(WordsFault::AgeParts(String::from_str(alloc, word)?));
+    };
+    match keep(alloc, added, end, seconds) {
+        Ok(()) => Ok(()),
+        Err(AgeFault::Memory) => Err(WordsFault::Memory),
+        Err(fault) => Err(WordsFault::Age(String::from_str(alloc, word)?, fault)),
+    }
+}
+
 /// What the words add to responses.
 pub(crate) fn additions_of(
     alloc: Global,
@@ -110,8 +150,10 @@ pub(crate) fn additions_of(
             add_type(alloc, &mut added, word)?;
         }
     }
-    if let Some(seconds) = matches.get_one::<u32>("cache") {
-        added.keep_for(seconds);
+    if let Some(words) = matches.get_strs("cache") {
+        for word in words {
+            add_age(alloc, &mut added, word)?;
+        }
     }
     Ok(added)
 }

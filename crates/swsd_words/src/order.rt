@@ -5,7 +5,7 @@ use clap::{Arg, ArgAction, ArgMatches, Command, Error, value_parser};
 use std::alloc::{AllocError, Global};
 use std::fmt;
 use std::net::{IpAddr, SocketAddr};
-use sws_site::{Additions, HeaderFault, TypeFault};
+use sws_site::{Additions, AgeFault, HeaderFault, TypeFault};
 
 /// What `--version` says.
 const VERSION: &str = "1.0";
@@ -139,6 +139,12 @@ pub enum WordsFault {
     /// The line of `--header` can't be sent.
     Header(String, HeaderFault),
 
+    /// The word of `--cache` is no number of seconds, alone or behind an end of names and `=`.
+    AgeParts(String),
+
+    /// The age of `--cache` can't be given.
+    Age(String, AgeFault),
+
     /// The word of `--type` is no extension with a type behind `=`.
     TypeParts(String),
 
@@ -187,6 +193,14 @@ impl fmt::Display for WordsFault {
             WordsFault::Header(word, fault) => write!(
                 f,
                 "error: invalid value '{word}' for '--header <NAME: VALUE>': {fault}\n"
+            ),
+            WordsFault::AgeParts(word) => write!(
+                f,
+                "error: invalid value '{word}' for '--cache <[END=]SECONDS>': expected seconds, 0 to 2147483647, alone or behind an end of names and '='\n"
+            ),
+            WordsFault::Age(word, fault) => write!(
+                f,
+                "error: invalid value '{word}' for '--cache <[END=]SECONDS>': {fault}\n"
             ),
             WordsFault::TypeParts(word) => write!(
                 f,

@@ -7,72 +7,206 @@ ghost use Rattle.std.specs.List.{AllByRecursion};
 ghost use Rattle.sws_link.specs.MemWorlds.{IsInitialMemLink};
 ghost use Rattle.sws_link.specs.Limits.{conn_limit};
 
-use example_chat_room::{End, Part, run_chat};
+use example_chat_room::{Client, End, Part, run_chat};
+use mely_actor::Ended;
 use std::process::Abort;
 use std::sync::Wait;
 use std::thread::Threads;
 use sws_link::{LinkItem, MemLink, MemWorld, Opened, World};
 
-/// What a guest does.
+/// Bytes in pieces, each so often, one after another.
+type Pieces = &'static [(&'static [u8], usize)];
+
+/// No bytes.
+const NOTHING: Pieces = &[];
+
+/// What a guest does. Where it says nothing, it listens for as long as anybody speaks, or until its
+/// link wasn't ready so often.
 #[derive(Clone, Copy)]
-struct Guest<'a> {
-    /// So often its link isn't ready before it speaks.
-    before: u16,
+enum Guest {
+    Listens,
+    LeavesAfter(u16),
 
-    /// What it says, in one piece.
-    says: &'a [u8],
+    /// It says this so often over, in one piece, once its link wasn't ready so often, and stays.
+    Says(u16, Pieces, usize),
 
-    /// So often its link isn't ready after that. Then it hangs up, or its link fails.
-    after: u16,
-    fails: bool,
+    /// Its link fails once it wasn't ready so often.
+    FailsAfter(u16),
 
-    /// How many bytes of what it is shown it takes at a time.
-    takes: Option<u32>,
+    /// It takes so many bytes of what it is shown at a time.
+    Takes(u32),
 }
 
-/// Who listens, for as long as anybody speaks.
-const LISTENER: Guest = Guest {
-    before: 0,
-    says: b"",
-    after: 200,
-    fails: false,
-    takes: None,
-};
+/// A room with one worker, what it comes to, and the words for that.
+struct Case {
+    is: &'static str,
+    guests: &'static [Guest],
 
-/// What a guest has come to: its end, and what it was shown.
-type Came = (Option<End>, Vec<u8>);
+    /// The call of this number on the world fails.
+    failing: Option<u32>,
 
-/// The bytes, in a vector.
-fn owned(rt: &(impl AllocGlobal + Abort), bytes: &[u8]) -> Vec<u8> {
-    Vec::from_slice(rt.alloc(), bytes).expect(rt, "memory")
+    /// How many lines the room gets.
+    lines: u64,
+
+    /// How the time of each guest ends, and what it is shown.
+    come: &'static [(End, Pieces)],
 }
 
-/// A guest that says this once the others are there, and stays.
-fn speaker(before: u16, says: &[u8]) -> Guest<'_> {
-    Guest {
-        before,
-        says,
-        after: 100,
-        ..LISTENER
+static CASES: [Case; 9] = [
+    Case {
+        is: "a line is shown to all others",
+        guests: &[
+            Guest::Says(20, &[(b"hi\n", 1)], 1),
+            Guest::Listens,
+            Guest::Listens,
+        ],
+        failing: None,
+        lines: 1,
+        come: &[
+            (End::Left, &[]),
+            (End::Left, &[(b"1: hi\n", 1)]),
+            (End::Left, &[(b"1: hi\n", 1)]),
+        ],
+    },
+    Case {
+        is: "all are shown lines in one order",
+        guests: &[
+            Guest::Listens,
+            Guest::Says(40, &[(b"b\nc\n", 1)], 1),
+            Guest::Says(20, &[(b"a\n", 1)], 1),
+            Guest::Listens,
+        ],
+        failing: None,
+        lines: 3,
+        come: &[
+            (End::Left, &[(b"3: a\n2: b\n2: c\n", 1)]),
+            (End::Left, &[(b"3: a\n", 1)]),
+            (End::Left, &[(b"2: b\n2: c\n", 1)]),
+            (End::Left, &[(b"3: a\n2: b\n2: c\n", 1)]),
+        ],
+    },
+    Case {
+        is: "who comes late is shown what comes then",
+        guests: &[
+            Guest::LeavesAfter(3),
+            Guest::Says(20, &[(b"a\n", 1)], 1),
+            Guest::Listens,
+        ],
+        failing: None,
+        lines: 1,
+        come: &[
+            (End::Left, &[]),
+            (End::Left, &[]),
+            (End::Left, &[(b"2: a\n", 1)]),
+        ],
+    },
+    Case {
+        is: "what is behind the last line feed is dropped",
+        guests: &[Guest::Says(20, &[(b"\na\r\nb", 1)], 1), Guest::Listens],
+        failing: None,
+        lines: 2,
+        come: &[(End::Left, &[]), (End::Left, &[(b"1: \n1: a\r\n", 1)])],
+    },
+    Case {
+        is: "who takes a byte at a time is shown all",
+        guests: &[Guest::Says(20, &[(b"hi\nho\n", 1)], 1), Guest::Takes(1)],
+        failing: None,
+        lines: 2,
+        come: &[(End::Left, &[]), (End::Left, &[(b"1: hi\n1: ho\n", 1)])],
+    },
+    Case {
+        is: "a line has 512 bytes at most",
+        guests: &[
+            Guest::Says(20, &[(b"x", 512), (b"\n", 1)], 1),
+            Guest::Says(40, &[(b"x", 513), (b"\n", 1)], 1),
+            Guest::Listens,
+        ],
+        failing: None,
+        lines: 1,
+        come: &[
+            (End::Left, &[]),
+            (End::LongLine, &[(b"1: ", 1), (b"x", 512), (b"\n", 1)]),
+            (End::Left, &[(b"1: ", 1), (b"x", 512), (b"\n", 1)]),
+        ],
+    },
+    // 130 lines of 504 bytes are no more than 64 KiB, and 131 are more.
+    Case {
+        is: "who takes nothing is dropped where more than 64 KiB are on their way",
+        guests: &[
+            Guest::Says(20, &[(b"x", 500), (b"\n", 1)], 131),
+            Guest::Takes(0),
+        ],
+        failing: None,
+        lines: 131,
+        come: &[(End::Left, &[]), (End::Slow, &[])],
+    },
+    Case {
+        is: "a link that fails ends its client alone",
+        guests: &[
+            Guest::Says(20, &[(b"a\n", 1)], 1),
+            Guest::FailsAfter(40),
+            Guest::Says(60, &[(b"b\n", 1)], 1),
+        ],
+        failing: None,
+        lines: 2,
+        come: &[
+            (End::Left, &[(b"3: b\n", 1)]),
+            (End::Fault, &[(b"1: a\n", 1)]),
+            (End::Left, &[(b"1: a\n", 1)]),
+        ],
+    },
+    // The clients that wait are dropped, one after another.
+    Case {
+        is: "a world that fails ends all",
+        guests: &[Guest::Listens, Guest::Listens],
+        failing: Some(20),
+        lines: 0,
+        come: &[(End::Fault, &[]), (End::Fault, &[])],
+    },
+];
+
+/// These pieces, one after another.
+fn joined(rt: &(impl AllocGlobal + Abort), pieces: &[(&[u8], usize)]) -> Vec<u8> {
+    let mut bytes: Vec<u8> = Vec::new(rt.alloc());
+    for &(piece, times) in pieces {
+        let repeated = piece.repeat(rt.alloc(), times).expect(rt, "memory");
+        bytes.extend_from_slice(&repeated).expect(rt, "memory");
     }
+    bytes
+}
+
+/// What the link of a guest gives.
+fn items_of(rt: &(impl AllocGlobal + Abort), guest: &Guest) -> Vec<LinkItem> {
+    let (before, says, times, after) = match *guest {
+        Guest::Listens => (0, NOTHING, 1, 200),
+        Guest::LeavesAfter(after) => (0, NOTHING, 1, after),
+        Guest::Says(before, says, times) => (before, says, times, 100),
+        Guest::FailsAfter(after) => (0, NOTHING, 1, after),
+        Guest::Takes(_) => (0, NOTHING, 1, 200),
+    };
+    let said = joined(rt, says)
+        .repeat(rt.alloc(), times)
+        .expect(rt, "memory");
+    let mut items = Vec::new(rt.alloc());
+    items.push(LinkItem::Wait(before)).expect(rt, "memory");
+    items.push(LinkItem::Bytes(said)).expect(rt, "memory");
+    items.push(LinkItem::Wait(after)).expect(rt, "memory");
+    if let Guest::FailsAfter(_) = *guest {
+        items.push(LinkItem::Fail).expect(rt, "memory");
+    }
+    items
 }
 
 /// The link of a guest.
 fn link_of(rt: &(impl AllocGlobal + Abort), guest: &Guest) -> MemLink
     ensures { IsInitialMemLink result }
 {
-    let mut items = Vec::new(rt.alloc());
-    items
-        .push(LinkItem::Wait(guest.before))
-        .expect(rt, "memory");
-    items
-        .push(LinkItem::Bytes(owned(rt, guest.says)))
-        .expect(rt, "memory");
-    items.push(LinkItem::Wait(guest.after)).expect(rt, "memory");
-    if guest.fails {
-        items.push(LinkItem::Fail).expect(rt, "memory");
-    }
-    MemLink::new(rt.alloc(), items, guest.takes, None, Vec::new(rt.alloc()))
+    let takes = match *guest {
+        Guest::Takes(bytes) => Some(bytes),
+        _ => None,
+    };
+    let items = items_of(rt, guest);
+    MemLink::new(rt.alloc(), items, takes, None, Vec::new(rt.alloc()))
 }
 
 /// The links of these guests.
@@ -88,208 +222,155 @@ fn links_of(rt: &(impl AllocGlobal + Abort), guests: &[Guest]) -> Vec<MemLink>
     links
 }
 
-/// How many lines a room with these guests gets, and what each comes to. The calls of these numbers
-/// on the world fail.
-fn talked(
+/// The calls on the world that fail.
+fn calls_of(rt: &(impl AllocGlobal + Abort), failing: Option<u32>) -> Vec<u32> {
+    let mut calls = Vec::new(rt.alloc());
+    if let Some(number) = failing {
+        calls.push(number).expect(rt, "memory");
+    }
+    calls
+}
+
+/// What a room with these guests comes to. The call of this number on the world fails.
+fn talk(
     rt: &(impl AllocGlobal + Abort + Threads + Wait + Sync),
     workers: u16,
     guests: &[Guest],
-    failing: &[u32],
-) -> (u64, Vec<Came>)
+    failing: Option<u32>,
+) -> Ended<Part<MemWorld, MemLink>>
     requires some { 1 ≤ workers }
     requires few { workers ≤ 64 }
 {
     let links = links_of(rt, guests);
     let count = links.len() as u16;
-    let failing = Vec::from_slice(rt.alloc(), failing).expect(rt, "memory");
-    let mut world = MemWorld::new(links, failing);
+    let mut world = MemWorld::new(links, calls_of(rt, failing));
     if world.open(80, count) != Opened::Ready {
         panic!(rt; "the world isn't open");
     }
-    let Ok(ended) = run_chat(rt, rt.alloc(), workers, world) else {
-        panic!(rt; "no memory");
-    };
-    let (mut lines, mut came) = (0, Vec::new(rt.alloc()));
-    for part in &ended.values {
-        match part {
-            Part::Desk(_) => {}
-            Part::Room(room) => lines = room.lines(),
-            Part::Client(client) => {
-                let shown = client.gone().map_or(b"".as_slice(), |link| link.written());
-                came.push((client.end(), owned(rt, shown)))
-                    .expect(rt, "memory");
+    match run_chat(rt, rt.alloc(), workers, world) {
+        Ok(ended) => ended,
+        Err(_) => panic!(rt; "no memory"),
+    }
+}
+
+/// What a client that is gone was shown.
+fn shown_to(client: &Client<MemLink>) -> &[u8] {
+    match client.gone() {
+        Some(link) => link.written(),
+        None => b"",
+    }
+}
+
+/// Whether a client has come to what it is to.
+fn is_shown(
+    rt: &(impl AllocGlobal + Abort),
+    client: &Client<MemLink>,
+    end: End,
+    shown: Pieces,
+) -> bool {
+    client.end() == Some(end) && shown_to(client) == joined(rt, shown).as_slice()
+}
+
+/// Whether this is as a case has it, of whose guests so many were seen.
+fn is_so(
+    rt: &(impl AllocGlobal + Abort),
+    part: &Part<MemWorld, MemLink>,
+    case: &Case,
+    seen: &mut usize,
+) -> bool {
+    match part {
+        Part::Desk(_) => true,
+        Part::Room(room) => room.lines() == case.lines,
+        Part::Client(client) => {
+            let number = *seen;
+            *seen = number.wrapping_add(1);
+            match case.come.get(number) {
+                Some(&(end, shown)) => is_shown(rt, client, end, shown),
+                None => false,
             }
         }
     }
-    (lines, came)
 }
 
-/// The room got so many lines, each guest was shown this, and its time has ended so.
-fn has_come(
-    rt: &(impl AllocGlobal + Abort),
-    talked: &(u64, Vec<Came>),
-    lines: u64,
-    guests: &[(End, &[u8])],
-) {
-    let (got, came) = talked;
-    assert!(rt; *got == lines);
-    assert!(rt; came.len() == guests.len());
-    for ((end, written), (ended, shown)) in came.iter().zip(guests) {
-        assert!(rt; *end == Some(*ended));
-        assert!(rt; written.as_slice() == *shown);
+/// Whether a room comes to what it is to.
+fn comes_so(rt: &(impl AllocGlobal + Abort + Threads + Wait + Sync), case: &Case) -> bool {
+    let ended = talk(rt, 1, case.guests, case.failing);
+    let mut seen = 0;
+    for part in &ended.values {
+        if !is_so(rt, part, case, &mut seen) {
+            return false;
+        }
+    }
+    seen == case.come.len()
+}
+
+#[test]
+fn each_room_comes_to_what_it_is_to(rt: HostRuntime) {
+    for case in &CASES {
+        let is = case.is;
+        assert!(rt; comes_so(&rt, case), "{is}");
     }
 }
 
-/// The room got so many lines, and each guest was shown this and left by itself.
-fn is_left(
-    rt: &(impl AllocGlobal + Abort),
-    talked: &(u64, Vec<Came>),
-    lines: u64,
-    shown: &[&[u8]],
-) {
-    let (got, came) = talked;
-    assert!(rt; *got == lines);
-    assert!(rt; came.len() == shown.len());
-    for ((end, written), expected) in came.iter().zip(shown) {
-        assert!(rt; *end == Some(End::Left));
-        assert!(rt; written.as_slice() == *expected);
+/// Guests who all speak at once.
+static EIGHT: [Guest; 8] = [
+    Guest::Says(5, &[(b"a\nb\nc\n", 1)], 1),
+    Guest::Says(5, &[(b"a\nb\nc\n", 1)], 1),
+    Guest::Says(5, &[(b"a\nb\nc\n", 1)], 1),
+    Guest::Says(5, &[(b"a\nb\nc\n", 1)], 1),
+    Guest::Says(5, &[(b"a\nb\nc\n", 1)], 1),
+    Guest::Says(5, &[(b"a\nb\nc\n", 1)], 1),
+    Guest::Says(5, &[(b"a\nb\nc\n", 1)], 1),
+    Guest::Says(5, &[(b"a\nb\nc\n", 1)], 1),
+];
+
+/// Whether this is whole lines of others than the guest of this digit.
+fn is_of_others(shown: &[u8], own: u8) -> bool {
+    if shown.len() % 5 != 0 {
+        return false;
+    }
+    for line in shown.chunks(5) {
+        let is_other = line[0] != own && (b'1'..=b'8').contains(&line[0]);
+        let is_said = line[1] == b':' && line[2] == b' ' && (b'a'..=b'c').contains(&line[3]);
+        if !is_other || !is_said || line[4] != b'\n' {
+            return false;
+        }
+    }
+    true
+}
+
+/// Whether this is right in a room where each of eight guests says three lines, the last of whom that
+/// was seen has this digit.
+fn is_right(part: &Part<MemWorld, MemLink>, last: &mut u8) -> bool {
+    match part {
+        Part::Desk(_) => true,
+        Part::Room(room) => room.lines() == 24,
+        Part::Client(client) => {
+            *last = last.wrapping_add(1);
+            client.end() == Some(End::Left) && is_of_others(shown_to(client), *last)
+        }
     }
 }
 
-#[test]
-fn a_line_is_shown_to_all_others(rt: HostRuntime) {
-    let guests = [speaker(20, b"hi\n"), LISTENER, LISTENER];
-    let came = talked(&rt, 1, &guests, &[]);
-    is_left(&rt, &came, 1, &[b"", b"1: hi\n", b"1: hi\n"]);
-}
-
-#[test]
-fn all_are_shown_lines_in_one_order(rt: HostRuntime) {
-    let guests = [
-        LISTENER,
-        speaker(40, b"b\nc\n"),
-        speaker(20, b"a\n"),
-        LISTENER,
-    ];
-    let came = talked(&rt, 1, &guests, &[]);
-    let all = b"3: a\n2: b\n2: c\n".as_slice();
-    is_left(&rt, &came, 3, &[all, b"3: a\n", b"2: b\n2: c\n", all]);
-}
-
-#[test]
-fn who_comes_late_is_shown_what_comes_then(rt: HostRuntime) {
-    let leaves = Guest {
-        after: 3,
-        ..LISTENER
-    };
-    let guests = [leaves, speaker(20, b"a\n"), LISTENER];
-    let came = talked(&rt, 1, &guests, &[]);
-    is_left(&rt, &came, 1, &[b"", b"", b"2: a\n"]);
-}
-
-#[test]
-fn what_is_behind_the_last_line_feed_is_dropped(rt: HostRuntime) {
-    let guests = [speaker(20, b"\na\r\nb"), LISTENER];
-    let came = talked(&rt, 1, &guests, &[]);
-    is_left(&rt, &came, 2, &[b"", b"1: \n1: a\r\n"]);
-}
-
-#[test]
-fn who_takes_a_byte_at_a_time_is_shown_all(rt: HostRuntime) {
-    let slow = Guest {
-        takes: Some(1),
-        ..LISTENER
-    };
-    let came = talked(&rt, 1, &[speaker(20, b"hi\nho\n"), slow], &[]);
-    is_left(&rt, &came, 2, &[b"", b"1: hi\n1: ho\n"]);
-}
-
-/// So many letters and a line feed.
-fn long_line(rt: &(impl AllocGlobal + Abort), letters: usize) -> Vec<u8> {
-    let mut line = Vec::new(rt.alloc());
-    line.resize(letters, b'x').expect(rt, "memory");
-    line.push(b'\n').expect(rt, "memory");
-    line
-}
-
-#[test]
-fn a_line_has_512_bytes_at_most(rt: HostRuntime) {
-    let (longest, longer) = (long_line(&rt, 512), long_line(&rt, 513));
-    let mut shown = owned(&rt, b"1: ");
-    shown.extend_from_slice(&longest).expect(&rt, "memory");
-    let guests = [speaker(20, &longest), speaker(40, &longer), LISTENER];
-    let came = talked(&rt, 1, &guests, &[]);
-    let shown = shown.as_slice();
-    has_come(
-        &rt,
-        &came,
-        1,
-        &[(End::Left, b""), (End::LongLine, shown), (End::Left, shown)],
-    );
-}
-
-/// Who takes nothing is dropped where more than 64 KiB are on their way: 130 lines of 504 bytes are
-/// fewer, and 131 are more.
-#[test]
-fn who_takes_nothing_is_dropped(rt: HostRuntime) {
-    let deaf = Guest {
-        takes: Some(0),
-        ..LISTENER
-    };
-    let line = long_line(&rt, 500);
-    let mut all = Vec::new(rt.alloc());
-    for _ in 0..131 {
-        all.extend_from_slice(&line).expect(&rt, "memory");
+/// Whether each of the eight is shown lines of others alone, on so many workers.
+fn are_shown_others(rt: &(impl AllocGlobal + Abort + Threads + Wait + Sync), workers: u16) -> bool
+    requires some { 1 ≤ workers }
+    requires few { workers ≤ 64 }
+{
+    let ended = talk(rt, workers, &EIGHT, None);
+    let mut last = b'0';
+    for part in &ended.values {
+        if !is_right(part, &mut last) {
+            return false;
+        }
     }
-    let came = talked(&rt, 1, &[speaker(20, &all), deaf], &[]);
-    has_come(&rt, &came, 131, &[(End::Left, b""), (End::Slow, b"")]);
-}
-
-#[test]
-fn a_link_that_fails_ends_its_client_alone(rt: HostRuntime) {
-    let broken = Guest {
-        after: 40,
-        fails: true,
-        ..LISTENER
-    };
-    let guests = [speaker(20, b"a\n"), broken, speaker(60, b"b\n")];
-    let came = talked(&rt, 1, &guests, &[]);
-    let (one, two) = (b"1: a\n".as_slice(), b"3: b\n".as_slice());
-    has_come(
-        &rt,
-        &came,
-        2,
-        &[(End::Left, two), (End::Fault, one), (End::Left, one)],
-    );
-}
-
-/// Where the world fails, the clients that wait are dropped, one after another.
-#[test]
-fn a_world_that_fails_ends_all(rt: HostRuntime) {
-    let (lines, came) = talked(&rt, 1, &[LISTENER, LISTENER], &[20]);
-    assert!(rt; lines == 0);
-    for (end, shown) in &came {
-        assert!(rt; *end == Some(End::Fault));
-        assert!(rt; shown.len() == 0);
-    }
+    last == b'8'
 }
 
 /// On threads it isn't said who is there when a line comes. Each is shown whole lines of others.
 #[test]
 fn nobody_is_shown_a_line_of_its_own(rt: HostRuntime) {
-    let guest = speaker(5, b"a\nb\nc\n");
     for workers in 1..=4 {
-        let (lines, came) = talked(&rt, workers, &[guest; 8], &[]);
-        assert!(rt; lines == 24);
-        for (number, (end, shown)) in (b'1'..).zip(&came) {
-            assert!(rt; *end == Some(End::Left));
-            assert!(rt; shown.len() % 5 == 0);
-            for line in shown.chunks(5) {
-                assert!(rt; line[0] != number && (b'1'..=b'8').contains(&line[0]));
-                assert!(rt; line[1..3] == b": "[..]);
-                assert!(rt; (b'a'..=b'c').contains(&line[3]));
-                assert!(rt; line[4] == b'\n');
-            }
-        }
+        assert!(rt; are_shown_others(&rt, workers), "{workers} workers");
     }
 }

@@ -1,21 +1,19 @@
 //! Runs on several workers, want of memory and links that fail: whatever the runtime does, each connection
 //! is served as if it were alone. Worked rows of it are those of `run_cases`.
 
-mod counted;
 mod failing;
 mod logged;
-mod logged_threads;
 mod replaying;
-mod starving;
 mod threading;
 mod wanting;
+mod watched;
 
 use mely_history::Shape;
-use replaying::{Client, Part, Sent};
+use replaying::{Client, Part};
 use std::process::Abort;
 use sws_conn::End;
 use sws_engine::Ended;
-use sws_link::World;
+use watched::Watched;
 
 /// A request for the first file, its answer, and the same that closes.
 const G: &[u8] = b"GET / HTTP/1.1\r\nHost: x\r\n\r\n";
@@ -51,13 +49,10 @@ const PLAIN: Shape = Shape {
 type Left<'a> = (End, &'a [u8]);
 
 /// Whether a run left these connections.
-fn have_left<W: World>(ended: &Ended<W>, rows: &[Left]) -> bool
-where
-    W::Link: Sent,
-{
+fn have_left(ended: &Ended<Watched<'_>>, rows: &[Left]) -> bool {
     for (served, &(end, written)) in ended.served.iter().zip(rows) {
         let is_written = match &served.link {
-            Some(link) => link.sent() == written,
+            Some(link) => link.written() == written,
             None => false,
         };
         if !is_written || served.end != Some(end) || served.stray != None {
@@ -67,12 +62,12 @@ where
     ended.served.len() == rows.len()
 }
 
-/// These answers, each so often, one after another.
-fn joined(rt: &(impl AllocGlobal + Abort), answers: &[(&[u8], usize)]) -> Vec<u8> {
+/// These bytes, each so often, one after another.
+fn joined(rt: &(impl AllocGlobal + Abort), pieces: &[(&[u8], usize)]) -> Vec<u8> {
     let mut bytes: Vec<u8> = Vec::new(rt.alloc());
-    for &(answer, times) in answers {
-        let answers = answer.repeat(rt.alloc(), times).expect(rt, "memory");
-        bytes.extend_from_slice(&answers).expect(rt, "memory");
+    for &(piece, times) in pieces {
+        let repeated = piece.repeat(rt.alloc(), times).expect(rt, "memory");
+        bytes.extend_from_slice(&repeated).expect(rt, "memory");
     }
     bytes
 }

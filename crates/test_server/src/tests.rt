@@ -2,10 +2,14 @@
 
 mod additions;
 mod answers;
+mod connections;
 mod files;
 mod links;
+mod logs;
 mod parts;
+mod reports;
 mod requests;
+mod scripts;
 mod site_options;
 mod sites;
 mod texts;

@@ -4,12 +4,14 @@ ghost use Rattle.std.specs.List.{AllByRecursion};
 ghost use Rattle.sws_link.specs.MemWorlds.{IsInitialMemLink};
 ghost use Rattle.sws_link.specs.Limits.{conn_limit};
 
+use super::joined;
+use super::watched::{Watched, WatchedLink};
 use mely_history::{Entry, History, Judged, Setup, judge};
 use std::alloc::Global;
 use std::process::Abort;
 use sws_conn::End;
 use sws_engine::{Ended, Served};
-use sws_link::{Link, LinkItem, MemLink, MemWorld, Put, SureFolder, SureSink};
+use sws_link::{LinkItem, MemLink, Put, SureFolder, SureSink};
 use sws_report::write_conn;
 use sws_site::Site;
 
@@ -18,6 +20,9 @@ use sws_site::Site;
 pub(super) enum Part<'a> {
     /// It sends these bytes in one piece.
     Send(&'a [u8]),
+
+    /// It sends so many lines of so many letters in one piece.
+    Lines(usize, usize),
 
     /// It is not ready so often.
     Pause(u16),
@@ -31,6 +36,12 @@ fn piece(rt: &(impl AllocGlobal + Abort), bytes: &[u8]) -> LinkItem {
     LinkItem::Bytes(Vec::from_slice(rt.alloc(), bytes).expect(rt, "memory"))
 }
 
+/// So many lines of so many letters, in one piece.
+fn lines(rt: &(impl AllocGlobal + Abort), count: usize, letters: usize) -> LinkItem {
+    let line = joined(rt, &[(b"x", letters), (b"\n", 1)]);
+    LinkItem::Bytes(joined(rt, &[(&line, count)]))
+}
+
 /// What a client does, how many bytes a write to it takes at most, and after how many bytes its
 /// link fails.
 pub(super) type Client<'a> = (&'a [Part<'a>], Option<u32>, Option<u64>);
@@ -41,6 +52,7 @@ pub(super) fn items_of(rt: &(impl AllocGlobal + Abort), parts: &[Part]) -> Vec<L
     for part in parts {
         let item = match *part {
             Part::Send(bytes) => piece(rt, bytes),
+            Part::Lines(count, letters) => lines(rt, count, letters),
             Part::Pause(count) => LinkItem::Wait(count),
             Part::Fault => LinkItem::Fail,
         };
@@ -102,17 +114,6 @@ pub(super) fn site(rt: &(impl AllocGlobal + Abort)) -> Site {
     site.ok().expect(rt, "the site is loaded")
 }
 
-/// A link of which the tests see what was written to it.
-pub(super) trait Sent: Link {
-    fn sent(&self) -> &[u8];
-}
-
-impl Sent for MemLink {
-    fn sent(&self) -> &[u8] {
-        self.written()
-    }
-}
-
 /// The entries of a history that is listed.
 pub(super) fn entries_of<'h>(rt: &impl Abort, history: &'h History) -> &'h [Entry] {
     match history.entries() {
@@ -133,7 +134,7 @@ pub(super) fn are_legal(rt: &impl Abort, setup: &Setup, histories: &[History]) -
 
 /// Writes how each of these connections ended and what it was sent, and says whether all of them have
 /// their links and ends.
-fn write_conns(alloc: Global, sink: &mut SureSink, conns: &[Served<MemLink>]) -> bool {
+fn write_conns(alloc: Global, sink: &mut SureSink, conns: &[Served<WatchedLink<'_>>]) -> bool {
     let mut number: u16 = 0;
     for conn in conns {
         let (Some(link), Some(end)) = (&conn.link, conn.end) else {
@@ -148,7 +149,7 @@ fn write_conns(alloc: Global, sink: &mut SureSink, conns: &[Served<MemLink>]) ->
 }
 
 /// Whether what a run left is this, as a replay prints it.
-pub(super) fn is_printed(rt: &impl AllocGlobal, ended: &Ended<MemWorld>, shown: &[u8]) -> bool {
+pub(super) fn is_printed(rt: &impl AllocGlobal, ended: &Ended<Watched<'_>>, shown: &[u8]) -> bool {
     let mut sink = SureSink::new(rt.alloc());
     write_conns(rt.alloc(), &mut sink, &ended.served) && sink.written() == shown
 }

@@ -1,16 +1,10 @@
 //! The web server on threads at work: whatever the threads do, each connection is
 //! served as if it were alone.
-ghost use Rattle.std.specs.Prelude.{◌≤◌, length};
-ghost use Rattle.std.specs.List.{AllByRecursion};
-ghost use Rattle.sws_link.specs.MemWorlds.{IsInitialMemLink};
-ghost use Rattle.sws_link.specs.Limits.{conn_limit};
-
-use super::counted::CountedWorld;
-use super::replaying::{Client, Part, are_legal, entries_of, is_printed, links_of, site};
-use super::starving::Starving;
+use super::replaying::{Client, Part, entries_of, is_printed};
+use super::watched::serve;
 use super::{A, ASKS, G, Left, PLAIN, THREE, THREE_SHOWN, have_left};
 use mely_event::{Colour, Event};
-use mely_history::{Entry, History, Setup, Shape};
+use mely_history::{Entry, History, Shape};
 use mely_worker::{Gate, OpenGate};
 use std::process::Abort;
 use std::sync::Wait;
@@ -19,9 +13,7 @@ use std::thread;
 use std::thread::Threads;
 use std::time::Duration;
 use sws_conn::End;
-use sws_engine::{Ended, Verdict, handler_table, serve_all};
-use sws_link::{MemLink, MemWorld, World};
-use sws_site::Site;
+use sws_engine::Verdict;
 
 /// Four workers, and two shards.
 const FOUR: Shape = Shape {
@@ -123,27 +115,6 @@ fn shape(cores: u16, shards: u16) -> Shape {
     }
 }
 
-/// Serves these links by threads, and each history that they leave is legal.
-fn serve<R: AllocGlobal + Abort + Threads + Wait + Sync, G: Gate + Sync>(
-    rt: &R,
-    site: &Site,
-    shape: &Shape,
-    links: Vec<MemLink>,
-    gate: &G,
-) -> Ended<MemWorld>
-    requires few { length links.items ≤ conn_limit }
-    requires initial { AllByRecursion IsInitialMemLink links.items }
-{
-    let world = MemWorld::new(links, Vec::new(rt.alloc()));
-    let colours = u32::from(world.total()) + 2;
-    let Ok(setup) = Setup::new(shape, colours, handler_table(), 1) else {
-        panic!(rt; "a number of the shape is out of its range");
-    };
-    let ended = serve_all(rt, rt.alloc(), site, shape, world, gate, false, true);
-    assert!(rt; are_legal(rt, &setup, &ended.histories));
-    ended
-}
-
 /// How many events were run, by the histories.
 fn events_of(rt: &impl Abort, histories: &[History]) -> u64 {
     let mut events: u64 = 0;
@@ -165,45 +136,33 @@ fn events_of_three<R: AllocGlobal + Abort + Threads + Wait + Sync, G: Gate + Syn
     shards: u16,
     gate: &G,
 ) -> Option<u64> {
-    let site = site(rt);
-    let ended = serve(rt, &site, &shape(cores, shards), links_of(rt, &THREE), gate);
+    let calls = AtomicU64::new(0);
+    let ended = serve(rt, &shape(cores, shards), &THREE, 0, &calls, gate, false);
     let is_whole = ended.verdict == Verdict::Ok
         && ended.world.is_some()
-        && (ended.accepted, ended.failed) == (3, false)
+        && ended.accepted == 3
+        && !ended.failed
         && is_printed(rt, &ended, THREE_SHOWN);
     is_whole.then_some(events_of(rt, &ended.histories))
 }
 
-/// A run of a world whose link of this number finds no memory, by threads.
-fn starve<R: AllocGlobal + Abort + Threads + Wait + Sync>(
-    rt: &R,
-    shape: &Shape,
-    links: Vec<MemLink>,
-    refuses: u16,
-) -> Ended<Starving>
-    requires few { length links.items ≤ conn_limit }
-    requires initial { AllByRecursion IsInitialMemLink links.items }
-{
-    let site = site(rt);
-    let world = Starving {
-        world: MemWorld::new(links, Vec::new(rt.alloc())),
-        refuses,
-        given: 0,
-    };
-    let colours = u32::from(world.total()) + 2;
-    let Ok(_) = Setup::new(shape, colours, handler_table(), 1) else {
-        panic!(rt; "a number of the shape is out of its range");
-    };
-    serve_all(rt, rt.alloc(), &site, shape, world, &OpenGate, false, false)
-}
+/// So many workers and shards.
+static CREWS: [(u16, u16); 8] = [
+    (1, 1),
+    (2, 1),
+    (8, 1),
+    (64, 1),
+    (1, 4),
+    (2, 4),
+    (8, 4),
+    (64, 4),
+];
 
 #[test]
 fn three_connections_are_served_so_whatever_the_workers_are(rt: HostRuntime) {
-    for shards in [1, 4] {
-        for cores in [1, 2, 8, 64] {
-            let events = events_of_three(&rt, cores, shards, &OpenGate);
-            assert!(rt; events.is_some(), "{cores} and {shards}");
-        }
+    for &(cores, shards) in &CREWS {
+        let events = events_of_three(&rt, cores, shards, &OpenGate);
+        assert!(rt; events.is_some(), "{cores} and {shards}");
     }
 }
 
@@ -230,40 +189,18 @@ fn is_passed_as_often<R: AllocGlobal + Abort + Threads + Wait + Sync>(
     events == Some(gate.passed.load(Ordering::SeqCst))
 }
 
+static SMALL_CREWS: [(u16, u16); 4] = [(1, 1), (1, 4), (4, 1), (4, 4)];
+
 #[test]
 fn the_gate_is_passed_as_often_as_handlers_run(rt: HostRuntime) {
-    for cores in [1, 4] {
-        for shards in [1, 4] {
-            assert!(rt;
-                is_passed_as_often(&rt, cores, shards),
-                "{cores} and {shards}"
-            );
-        }
+    for &(cores, shards) in &SMALL_CREWS {
+        let is_so = is_passed_as_often(&rt, cores, shards);
+        assert!(rt; is_so, "{cores} and {shards}");
     }
 }
 
 /// A client who is not ready at first.
 static LATE: [Client; 1] = [(&[Part::Pause(1), Part::Send(G)], None, None)];
-
-/// Serves one connection by so many workers, through a gate, over a link whose calls are counted.
-fn serve_counted<'r, R: AllocGlobal + Abort + Threads + Wait + Sync>(
-    rt: &R,
-    cores: u16,
-    calls: &'r AtomicU64,
-    gate: &Before<'_>,
-) -> Ended<CountedWorld<'r>> {
-    let site = site(rt);
-    let world = CountedWorld {
-        world: MemWorld::new(links_of(rt, &LATE), Vec::new(rt.alloc())),
-        calls,
-    };
-    let shape = shape(cores, 1);
-    let colours = u32::from(world.total()) + 2;
-    let Ok(_setup) = Setup::new(&shape, colours, handler_table(), 1) else {
-        panic!(rt; "a number of the shape is out of its range");
-    };
-    serve_all(rt, rt.alloc(), &site, &shape, world, gate, false, false)
-}
 
 /// Whether each handler of one connection that calls its link has passed the gate before, by so many
 /// workers.
@@ -274,7 +211,7 @@ fn is_behind_the_gate<R: AllocGlobal + Abort + Threads + Wait + Sync>(rt: &R, co
         due: AtomicU64::new(0),
         is_late: AtomicU64::new(0),
     };
-    let ended = serve_counted(rt, cores, &calls, &gate);
+    let ended = serve(rt, &shape(cores, 1), &LATE, 0, &calls, &gate, false);
     // a read that finds the link not ready, that read again, a write of the answer's head, one of
     // its body, a read that finds the end, and the close
     gate.is_late.load(Ordering::SeqCst) == 0
@@ -296,7 +233,7 @@ fn are_at_once<R: AllocGlobal + Abort + Threads + Wait + Sync>(
     rt: &R,
     clock: &HostRuntime,
 ) -> bool {
-    let site = site(rt);
+    let calls = AtomicU64::new(0);
     let gate = Meeting {
         clock,
         passed: AtomicU64::new(0),
@@ -307,7 +244,7 @@ fn are_at_once<R: AllocGlobal + Abort + Threads + Wait + Sync>(
         steal_cost: 0,
         ..shape(2, 1)
     };
-    let ended = serve(rt, &site, &free, links_of(rt, &[ASKS; 2]), &gate);
+    let ended = serve(rt, &free, &[ASKS; 2], 0, &calls, &gate, false);
     ended.verdict == Verdict::Ok
         && gate.is_missed.load(Ordering::SeqCst) == 0
         && gate.passed.load(Ordering::SeqCst) == events_of(rt, &ended.histories)
@@ -336,9 +273,11 @@ static THIRD_STARVES_LEAVE: [Left; 4] = [
 
 /// Whether want of memory of the third link ends its own connection.
 fn is_third_starved<R: AllocGlobal + Abort + Threads + Wait + Sync>(rt: &R) -> bool {
-    let ended = starve(rt, &FOUR, links_of(rt, &THIRD_STARVES), 3);
+    let calls = AtomicU64::new(0);
+    let ended = serve(rt, &FOUR, &THIRD_STARVES, 3, &calls, &OpenGate, false);
     ended.verdict == Verdict::Memory
-        && (ended.accepted, ended.failed) == (4, false)
+        && ended.accepted == 4
+        && !ended.failed
         && have_left(&ended, &THIRD_STARVES_LEAVE)
 }
 

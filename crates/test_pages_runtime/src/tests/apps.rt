@@ -1,6 +1,8 @@
 //! The pages of `mely_weave` and `mely_fleet`.
 ghost use Rattle.std.specs.Prelude.{◌≡◌, ◌≤◌, ◌++◌, ◌∷◌, [], IfOk, length};
 ghost use Rattle.std.specs.List.{AllByRecursion};
+ghost use Rattle.mely_event.specs.HandlerTable.{rows_of};
+ghost use Rattle.mely_history.specs.Setup.{shape_of, colours_of, handlers_of};
 ghost use Rattle.mely_weave.specs.Making.{AreInitialBelow};
 ghost use Rattle.mely_worker.specs.Access.{FitsIn};
 
@@ -49,14 +51,27 @@ const SENDS: Event = Event { handler: 1, arg: 1 };
 
 const SENT: Event = Event { handler: 0, arg: 0 };
 
-/// Two cores and two shards.
-const SHAPE: Shape = Shape {
-    cores: 2,
-    shards: 2,
-    batch: 10,
-    steal_cost: 20,
-    group: 2,
-};
+/// Two cores and two shards, two colours and two handlers.
+fn two_shards() -> Result<Setup, Memory>
+    ensures cores { IfOk result (λ setup. (shape_of setup).cores ≡ 2) }
+    ensures colours { IfOk result (λ setup. colours_of setup ≡ 2) }
+    ensures handlers { IfOk result (λ setup. length (rows_of (handlers_of setup)) ≡ 2) }
+{
+    let shape = Shape {
+        cores: 2,
+        shards: 2,
+        batch: 10,
+        steal_cost: 20,
+        group: 2,
+    };
+    let Ok(handlers) = Handlers::new(&[(10, 1), (10, 1)]) else {
+        return Err(Memory);
+    };
+    match Setup::new(&shape, 2, handlers, 0) {
+        Ok(setup) => Ok(setup),
+        Err(_) => Err(Memory),
+    }
+}
 
 /// A state for each colour, on which nothing was run.
 fn initial_states(alloc: Global, colours: u32) -> Result<Vec<TrailLog>, Memory>
@@ -74,9 +89,8 @@ fn initial_states(alloc: Global, colours: u32) -> Result<Vec<TrailLog>, Memory>
 #[test]
 fn a_weave_is_run_and_drained(rt: HostRuntime) -> Result<(), Fail> {
     let alloc = rt.alloc();
-    let handlers = Handlers::new(&[(10, 1), (10, 1)])?;
-    let setup = Setup::new(&SHAPE, 2, handlers, 0)?;
-    let states = initial_states(alloc, setup.colours())?;
+    let setup = two_shards()?;
+    let states = initial_states(alloc, 2)?;
     let (app, colour, event, load) = (Sending, Colour(0), SENDS, None);
     let mut weave = Weave::new(alloc, &setup, states)?;
     let posted = weave.post(colour, event, load);
@@ -93,9 +107,8 @@ fn a_weave_is_run_and_drained(rt: HostRuntime) -> Result<(), Fail> {
 #[test]
 fn a_fleet_is_run_by_its_crew(rt: HostRuntime) -> Result<(), Fail> {
     let alloc = rt.alloc();
-    let handlers = Handlers::new(&[(10, 1), (10, 1)])?;
-    let setup = Setup::new(&SHAPE, 2, handlers, 0)?;
-    let states = initial_states(alloc, setup.colours())?;
+    let setup = two_shards()?;
+    let states = initial_states(alloc, 2)?;
     let (app, gate) = (Sending, OpenGate);
     let (colour, event, load) = (Colour(0), SENDS, None);
     let begin = (colour, event, load);

@@ -6,8 +6,9 @@ use mely_event::{Colour, Mark};
 use std::alloc::Global;
 use std::test::Fail;
 
-/// What the core runs and what a thief finds then, once this mark was pushed and more was registered.
-fn run_and_stolen(alloc: Global, mark: Mark) -> Result<(Option<Mark>, Option<Mark>), Fail>
+/// Whether the core runs the raised mark, once this one was pushed and more was registered, and a
+/// thief finds none then.
+fn is_run(alloc: Global, mark: Mark, raised: Mark) -> Result<bool, Fail>
     requires { mark.colour.0 < 4 }
 {
     let mut queue = CoreQueue::new(alloc, 4, 20, 0)?;
@@ -15,7 +16,7 @@ fn run_and_stolen(alloc: Global, mark: Mark) -> Result<(Option<Mark>, Option<Mar
     queue.retell(mark.colour, mark.started, 45);
     let next = queue.pop();
     let stolen = queue.pick();
-    Ok((next, stolen))
+    Ok(next == Some(raised) && stolen == None)
 }
 
 #[test]
@@ -26,6 +27,6 @@ fn a_ready_colour_is_run_or_stolen(rt: HostRuntime) -> Result<(), Fail> {
         worth: 30,
     };
     let raised = Mark { worth: 45, ..mark };
-    assert!(rt; run_and_stolen(rt.alloc(), mark)? == (Some(raised), None));
+    assert!(rt; is_run(rt.alloc(), mark, raised)?);
     Ok(())
 }

@@ -54,15 +54,17 @@ fn written<R: Wait>(rt: &R, alloc: Global, text: char) -> Result<Diary, Fail> {
     let (lock, mut passes) = Ticketed::new(alloc, diary, 2)?;
     let mut pass = passes.pop().ok_or("no pass")?;
     let wrote = lock.call(rt, &mut pass, text, |diary, text, by| diary.add(by, text));
-    wrote?;
     passes.push(pass)?;
-    Ok(lock.close(passes))
+    let diary = lock.close(passes);
+    wrote?;
+    Ok(diary)
 }
 
 #[test]
 fn a_pass_adds_a_note(rt: HostRuntime) -> Result<(), Fail> {
     let diary = written(&rt, rt.alloc(), 'x')?;
     assert!(rt; diary.lines.len() == 1);
-    assert!(rt; (diary.lines[0].pass, diary.lines[0].text) == (1, 'x'));
+    assert!(rt; diary.lines[0].pass == 1);
+    assert!(rt; diary.lines[0].text == 'x');
     Ok(())
 }

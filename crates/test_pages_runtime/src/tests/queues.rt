@@ -42,7 +42,8 @@ fn a_turn_is_taken_run_and_finished(rt: HostRuntime) -> Result<(), Fail> {
     let mut queue = ColourQueue::new(rt.alloc());
     let state = after_turn(&mut queue)?;
     assert!(rt; state.value == EVENT.arg);
-    assert!(rt; (queue.started(), queue.finished()) == (1, 1));
+    assert!(rt; queue.started() == 1);
+    assert!(rt; queue.finished() == 1);
     assert!(rt; queue.time_left() == 0);
     Ok(())
 }

@@ -4,7 +4,8 @@ use mely_core::CoreQueue;
 use mely_event::{Colour, Mark, Memory, There};
 use std::alloc::Global;
 
-fn mark(colour: u16, worth: u128) -> Mark
+/// The mark of a period that began at 0.
+pub(super) fn mark(colour: u16, worth: u128) -> Mark
     ensures { result ≡ record { colour = record { 0 = colour }; started = 0; worth = worth } }
 {
     Mark {

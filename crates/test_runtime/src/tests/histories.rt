@@ -92,6 +92,14 @@ fn entries_of(alloc: Global, rows: &[Row]) -> Result<Vec<Entry>, AllocError> {
     Ok(entries)
 }
 
+/// How these entries are judged under the small setup.
+fn judged_entries(handlers: &[(u32, u32)], pinned: u32, history: &[Entry]) -> Option<Judged> {
+    match small(handlers, pinned) {
+        Some(setup) => Some(judge(&setup, history)),
+        None => None,
+    }
+}
+
 /// How a history of these rows is judged under the small setup.
 fn judged_under(
     alloc: Global,
@@ -100,10 +108,7 @@ fn judged_under(
     rows: &[Row],
 ) -> Result<Option<Judged>, AllocError> {
     let history = entries_of(alloc, rows)?;
-    match small(handlers, pinned) {
-        Some(setup) => Ok(Some(judge(&setup, &history))),
-        None => Ok(None),
-    }
+    Ok(judged_entries(handlers, pinned, &history))
 }
 
 /// How a history of these rows is judged where nothing is pinned.
@@ -157,7 +162,9 @@ static BEFORE: [Row; 5] = [
 
 /// How a history of these rows with one more behind them is judged.
 fn judged_with(alloc: Global, row: Row) -> Result<Option<Judged>, AllocError> {
-    judged(alloc, &[BEFORE.as_slice(), &[row]].concat(alloc)?)
+    let mut entries = entries_of(alloc, &BEFORE)?;
+    entries.push(entry_of(row))?;
+    Ok(judged_entries(TWO_OF_TEN, 0, &entries))
 }
 
 /// What is not allowed there.
@@ -370,42 +377,64 @@ fn a_setup_lists_histories_where_it_is_asked_to(rt: HostRuntime) {
     assert!(rt; is_listed_where_asked());
 }
 
-/// A history of these entries, each of which found room.
-fn history_of(alloc: Global, listed: bool, entries: &[Entry]) -> Result<History, Memory> {
-    let mut history = History::new(alloc, listed);
+/// Writes these entries, each of which finds room, and says whether they do.
+fn writes(history: &mut History, entries: &[Entry]) -> bool {
     for entry in entries {
-        history.reserve(1)?;
+        if history.reserve(1) != Ok(()) {
+            return false;
+        }
         history.push(*entry);
     }
-    Ok(history)
+    true
 }
 
 /// Two entries.
-static WRITTEN: [Row; 2] = [Row::Reg(0, 0, 0, 2), Row::Take(0, 0, 1)];
+static WRITTEN: [Entry; 2] = [
+    Entry::Reg {
+        colour: Colour(0),
+        event: Event { handler: 0, arg: 0 },
+        by: 2,
+    },
+    Entry::Take {
+        colour: Colour(0),
+        core: 0,
+        count: 1,
+    },
+];
+
+/// Whether a history gives the two entries as a list where it is listed, and none otherwise.
+fn gives(history: History, listed: bool) -> bool {
+    match history.into_entries() {
+        Some(list) => listed && list.as_slice() == WRITTEN.as_slice(),
+        None => !listed,
+    }
+}
 
 /// Whether a history of the two entries has two, and shows them where it is listed, and not otherwise.
-fn is_read(alloc: Global, listed: bool) -> Result<bool, Memory> {
-    let written = entries_of(alloc, &WRITTEN)?;
-    let shown = listed.then_some(written.as_slice());
-    let history = history_of(alloc, listed, &written)?;
-    let is_shown = history.len() == 2 && history.entries() == shown;
-    let is_given = match history.into_entries() {
-        Some(list) => shown == Some(list.as_slice()),
-        None => shown == None,
+fn is_read(alloc: Global, listed: bool) -> bool {
+    let mut history = History::new(alloc, listed);
+    let is_written = writes(&mut history, &WRITTEN);
+    let is_shown = match history.entries() {
+        Some(entries) => listed && entries == WRITTEN.as_slice(),
+        None => !listed,
     };
-    Ok(is_shown && is_given)
+    let has_two = history.len() == 2;
+    let is_given = gives(history, listed);
+    is_written && is_shown && has_two && is_given
 }
 
 #[test]
 fn a_history_is_read_where_it_is_listed(rt: HostRuntime) {
-    assert!(rt; is_read(rt.alloc(), false) == Ok(true));
-    assert!(rt; is_read(rt.alloc(), true) == Ok(true), "listed");
+    assert!(rt; is_read(rt.alloc(), false));
+    assert!(rt; is_read(rt.alloc(), true), "listed");
 }
 
 /// Whether a history of one entry has no room for so many more, and still room for nine.
-fn has_room_up_to(alloc: Global, listed: bool, most: u64) -> Result<bool, Memory> {
-    let mut history = history_of(alloc, listed, &[entry_of(Row::Steal(1, 1, 0))])?;
-    Ok(history.reserve(most) == Err(Memory) && history.reserve(9) == Ok(()) && history.len() == 1)
+fn has_room_up_to(alloc: Global, listed: bool, most: u64) -> bool {
+    let mut history = History::new(alloc, listed);
+    let is_written = writes(&mut history, &[entry_of(Row::Steal(1, 1, 0))]);
+    let has_room = history.reserve(most) == Err(Memory) && history.reserve(9) == Ok(());
+    is_written && has_room && history.len() == 1
 }
 
 /// Whether a history without entries has room for so many.
@@ -415,21 +444,17 @@ fn has_room_for(alloc: Global, most: u64) -> bool {
 
 #[test]
 fn a_history_has_room_up_to_its_limit(rt: HostRuntime) {
-    assert!(rt; has_room_up_to(rt.alloc(), false, MAX_NOTES) == Ok(true));
-    assert!(rt;
-        has_room_up_to(rt.alloc(), true, MAX_ENTRIES) == Ok(true),
-        "listed"
-    );
+    assert!(rt; has_room_up_to(rt.alloc(), false, MAX_NOTES));
+    assert!(rt; has_room_up_to(rt.alloc(), true, MAX_ENTRIES), "listed");
     assert!(rt; has_room_for(rt.alloc(), MAX_NOTES));
 }
 
 /// Whether a refusal prints so.
-pub(super) fn is_printed<T: Display>(
-    alloc: Global,
-    refusal: &T,
-    text: &str,
-) -> Result<bool, AllocError> {
-    Ok(refusal.to_string(alloc)?.as_str() == text)
+pub(super) fn is_printed<T: Display>(alloc: Global, refusal: &T, text: &str) -> bool {
+    match refusal.to_string(alloc) {
+        Ok(printed) => printed.as_str() == text,
+        Err(_) => false,
+    }
 }
 
 static NO_TAKES: [(NoTake, &str); 4] = [
@@ -460,12 +485,12 @@ static NO_STEALS: [(NoSteal, &str); 6] = [
 #[test]
 fn refusals_print_their_cause(rt: HostRuntime) {
     for (refusal, text) in &NO_TAKES {
-        assert!(rt; is_printed(rt.alloc(), refusal, text) == Ok(true), "{text}");
+        assert!(rt; is_printed(rt.alloc(), refusal, text), "{text}");
     }
     for (refusal, text) in &NO_STEALS {
-        assert!(rt; is_printed(rt.alloc(), refusal, text) == Ok(true), "{text}");
+        assert!(rt; is_printed(rt.alloc(), refusal, text), "{text}");
     }
     let fault = SetupFault::OutOfRange { field: 3 };
     let text = "number 3 of the setup is out of range";
-    assert!(rt; is_printed(rt.alloc(), &fault, text) == Ok(true));
+    assert!(rt; is_printed(rt.alloc(), &fault, text));
 }

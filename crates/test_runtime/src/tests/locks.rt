@@ -101,22 +101,21 @@ fn look<R: Wait>(rt: &R, lock: &Ticketed<Diary>, pass: &mut Pass<Diary>) -> u64
 fn is_found<R: Wait>(rt: &R, alloc: Global) -> Result<bool, Memory> {
     let (lock, mut passes) = Ticketed::new(alloc, Diary::new(alloc, 3), 2)?;
     let is_written = write(rt, &lock, &mut passes[0], 0).is_ok();
-    let before = (passes[0].seen(), passes[1].seen());
-    let found = look(rt, &lock, &mut passes[1]);
-    let after = passes[1].seen();
+    let is_own = passes[0].seen() == 1 && passes[1].seen() == 0;
+    let is_found = look(rt, &lock, &mut passes[1]) == 1;
+    let is_seen = passes[1].seen() == 1;
     let diary = lock.close(passes);
-    let is_seen = before == (1, 0) && found == 1 && after == 1;
-    Ok(is_written && is_seen && (diary.lines.len(), diary.ink) == (1, 3))
+    Ok(is_written && is_own && is_found && is_seen && diary.lines.len() == 1 && diary.ink == 3)
 }
 
 /// Whether two passes are numbered, and have seen nothing at first.
 fn are_numbered(alloc: Global) -> Result<bool, Memory> {
     let (lock, passes) = Ticketed::new(alloc, Diary::new(alloc, 3), 2)?;
-    let count = passes.len();
-    let first = (passes[0].number(), passes[0].seen());
-    let second = (passes[1].number(), passes[1].seen());
+    let is_first = passes[0].number() == 0 && passes[0].seen() == 0;
+    let is_second = passes[1].number() == 1 && passes[1].seen() == 0;
+    let are_two = passes.len() == 2;
     lock.close(passes);
-    Ok(count == 2 && first == (0, 0) && second == (1, 0))
+    Ok(is_first && is_second && are_two)
 }
 
 #[test]
@@ -163,17 +162,28 @@ fn write_from_threads<R: Threads + Wait + Sync>(
     );
 }
 
-/// Whether the diary has as many lines of each pass, each pass's in the
-/// order in which it wrote them.
-fn has_each_in_order(diary: &Diary, next: &mut [u64], count: u64) -> bool {
+/// Whether the diary has so many lines of a pass, in the order in which it wrote them.
+fn has_in_order(diary: &Diary, pass: u16, count: u64) -> bool {
+    let mut next = 0u64;
     for line in &diary.lines {
-        let pass = line.pass as usize;
-        if pass >= next.len() || next[pass] != line.turn || line.turn >= count {
+        if line.pass == pass {
+            if line.turn != next {
+                return false;
+            }
+            next = next.wrapping_add(1);
+        }
+    }
+    next == count
+}
+
+/// Whether the diary has so many lines of each of so many passes.
+fn has_each_in_order(diary: &Diary, passes: u16, count: u64) -> bool {
+    for pass in 0..passes {
+        if !has_in_order(diary, pass, count) {
             return false;
         }
-        next[pass] = line.turn + 1;
     }
-    next.iter().all(|turn| *turn == count)
+    true
 }
 
 /// Whether so many lines of each of so many threads stand in one history, and are so many in all.
@@ -189,8 +199,7 @@ fn stand_in_one<R: Threads + Wait + Sync>(
     let (lock, mut passes) = Ticketed::new(alloc, Diary::new(alloc, 3), threads)?;
     write_from_threads(rt, &lock, &mut passes, usize::from(threads), count);
     let diary = lock.close(passes);
-    let mut turns = vec![in alloc; 0; usize::from(threads)]?;
-    Ok(diary.lines.len() == lines && has_each_in_order(&diary, &mut turns, count))
+    Ok(diary.lines.len() == lines && has_each_in_order(&diary, threads, count))
 }
 
 #[test]

@@ -24,13 +24,16 @@ fn two_queued(alloc: Global) -> Option<ColourQueue<u8>>
 /// Whether a queue has this time left and so many events, of which so many were registered, started
 /// and finished.
 fn has(queue: &ColourQueue<u8>, time_left: u128, events: usize, counts: [u64; 3]) -> bool {
-    let told = [queue.registered(), queue.started(), queue.finished()];
-    queue.time_left() == time_left && queue.len() == events && told == counts
+    queue.time_left() == time_left
+        && queue.len() == events
+        && queue.registered() == counts[0]
+        && queue.started() == counts[1]
+        && queue.finished() == counts[2]
 }
 
 /// Whether these are one event, with this load.
 fn are(events: &[(Event, Option<u8>)], event: Event, load: Option<u8>) -> bool {
-    events == [(event, load)].as_slice()
+    events.len() == 1 && events[0].0 == event && events[0].1 == load
 }
 
 /// What a queue of the two events has at first, after a take of the first of them, and after its
@@ -50,11 +53,14 @@ fn the_time_left_falls_as_the_first_event_is_taken(rt: HostRuntime) {
     assert!(rt; falls(rt.alloc()) == Some(true));
 }
 
-/// The next event of a turn and its load, through the bounds.
-fn handed_out<S: Fits<u8>>(turn: &mut Turn<S, u8>) -> Option<(Event, Option<u8>)>
+/// Whether this is the next event of a turn, with this load, through the bounds.
+fn hands<S: Fits<u8>>(turn: &mut Turn<S, u8>, event: Event, load: Option<u8>) -> bool
     ensures { turn.new.state ≡ turn.old.state }
 {
-    turn.next()
+    match turn.next() {
+        Some((next, its)) => next == event && its == load,
+        None => false,
+    }
 }
 
 /// A turn of both events on core 5 for colour 2.
@@ -63,27 +69,35 @@ fn turn_of_two(alloc: Global) -> Option<Turn<Logged<u8>, u8>> {
         log: TrailLog::new(Colour(2)),
         value: 0,
     };
-    let events = [(FIRST, Some(1)), (SECOND, None)].to_vec(alloc).ok()?;
+    let mut queue = two_queued(alloc)?;
+    let events = queue.take_up_to(2).ok()?;
     Some(Turn::new(Colour(2), 5, state, events))
 }
 
-/// Whether a turn of both events hands each out once, in order, and its state is handed back.
-fn hands_out(alloc: Global) -> Option<bool> {
-    let mut turn = turn_of_two(alloc)?;
-    let is_new = (turn.colour(), turn.core(), turn.count()) == (Colour(2), 5, 2);
-    let is_first = handed_out(&mut turn) == Some((FIRST, Some(1))) && turn.left() == 1;
+/// Whether this turn of both events hands each out once, in order, and its state is handed back.
+fn hands_out(mut turn: Turn<Logged<u8>, u8>) -> bool {
+    let is_new = turn.colour() == Colour(2) && turn.core() == 5 && turn.count() == 2;
+    let is_first = hands(&mut turn, FIRST, Some(1)) && turn.left() == 1;
     turn.state().log.push(FIRST);
     turn.state().value = 7;
-    let is_second = handed_out(&mut turn) == Some((SECOND, None));
-    let is_last = handed_out(&mut turn) == None;
+    let is_second = hands(&mut turn, SECOND, None);
+    let is_last = turn.next().is_none();
     let state = turn.into_state();
-    let is_back = (state.log.colour(), state.value) == (Colour(2), 7);
-    Some(is_new && is_first && is_second && is_last && is_back)
+    let is_back = state.log.colour() == Colour(2) && state.value == 7;
+    is_new && is_first && is_second && is_last && is_back
+}
+
+/// Whether a new turn of both events hands them out so.
+fn hands_both_out(alloc: Global) -> bool {
+    match turn_of_two(alloc) {
+        Some(turn) => hands_out(turn),
+        None => false,
+    }
 }
 
 #[test]
 fn a_turn_hands_out_each_event_once_in_order(rt: HostRuntime) {
-    assert!(rt; hands_out(rt.alloc()) == Some(true));
+    assert!(rt; hands_both_out(rt.alloc()));
 }
 
 /// A turn of the one event that a vector has hands it out, and gives the vector back with no event
@@ -93,7 +107,7 @@ fn handed_out_of(room: Vec<(Event, Option<u8>)>) -> Option<Vec<(Event, Option<u8
     ensures { IfSome result (λ room. room.items ≡ []) }
 {
     let mut turn = Turn::new(Colour(2), 5, TrailLog::new(Colour(2)), room);
-    let is_first = handed_out(&mut turn) == Some((FIRST, Some(1)));
+    let is_first = hands(&mut turn, FIRST, Some(1));
     let (state, room) = turn.into_parts();
     if is_first && state.colour() == Colour(2) && room.is_empty() {
         Some(room)

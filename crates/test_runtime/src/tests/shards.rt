@@ -11,12 +11,12 @@ use std::alloc::Global;
 
 /// A state that adds up the loads.
 #[derive(Drop)]
-struct Tally {
+struct Counter {
     log: TrailLog,
     total: u64,
 }
 
-impl Trail for Tally {
+impl Trail for Counter {
     type Frame = ();
 
     ghost trail_of = { λ s. s.log.events };
@@ -26,12 +26,22 @@ impl Trail for Tally {
     ghost frame_of = { λ s. tt };
 }
 
-impl Fits<u32> for Tally {
+impl Fits<u32> for Counter {
     ghost fits_under = { λ frame colour event load. Unit {0} };
 }
 
-impl Tally {
-    /// Runs an event.
+impl Counter {
+    /// A state on which nothing was run.
+    fn new(colour: u16) -> Counter
+        ensures { result.log ≡ record { colour = record { 0 = colour }; events = [] } }
+    {
+        Counter {
+            log: TrailLog::new(Colour(colour)),
+            total: 0,
+        }
+    }
+
+    /// Runs an event, whose load is added.
     fn run(&mut self, event: Event, load: Option<u32>)
         ensures { self.new.log
             ≡ record self.old.log { events = self.old.log.events ++ event ∷ [] } }
@@ -41,21 +51,11 @@ impl Tally {
     }
 }
 
-/// A state at first.
-fn initial_tally(colour: u16) -> Tally
-    ensures { result.log ≡ record { colour = record { 0 = colour }; events = [] } }
-{
-    Tally {
-        log: TrailLog::new(Colour(colour)),
-        total: 0,
-    }
-}
-
 /// Runs what a turn has, and takes its state home.
-fn run_and_finish(shard: &mut Shard<Tally, u32>, mut turn: Turn<Tally, u32>) -> After
+fn run_and_finish(shard: &mut Shard<Counter, u32>, mut turn: Turn<Counter, u32>) -> After
     requires own { IsOwn shard.old turn.colour }
-    requires stands { TurnStands ⟦<Tally as Trail>⟧
-        ⟦<Tally as Fits<u32>>⟧.fits_under shard.old turn }
+    requires stands { TurnStands ⟦<Counter as Trail>⟧
+        ⟦<Counter as Fits<u32>>⟧.fits_under shard.old turn }
     ensures { KeepsFrame shard.old shard.new }
 {
     while let Some((event, load)) = turn.next() {
@@ -80,7 +80,7 @@ fn example(
     steal_cost: u32,
     pinned: u32,
     listed: bool,
-) -> Result<Shard<Tally, u32>, Memory>
+) -> Result<Shard<Counter, u32>, Memory>
     ensures { IfOk result IsExample }
 {
     let shape = Shape {
@@ -98,10 +98,10 @@ fn example(
     };
     let setup = listed_where(setup, listed);
     let mut states = Vec::new(alloc);
-    states.push(initial_tally(0))?;
-    states.push(initial_tally(1))?;
-    states.push(initial_tally(2))?;
-    states.push(initial_tally(3))?;
+    states.push(Counter::new(0))?;
+    states.push(Counter::new(1))?;
+    states.push(Counter::new(2))?;
+    states.push(Counter::new(3))?;
     match Shard::new(alloc, &setup, 0, states) {
         Ok(shard) => Ok(shard),
         Err(_) => Err(Memory),
@@ -109,7 +109,7 @@ fn example(
 }
 
 /// Registers an event of handler 0 by pass 2.
-fn register(shard: &mut Shard<Tally, u32>, colour: u16) -> Option<Registered>
+fn register(shard: &mut Shard<Counter, u32>, colour: u16) -> Option<Registered>
     requires is { IsExample shard.old }
     requires colour { colour < 4 }
     ensures { IsExample shard.new }
@@ -119,7 +119,11 @@ fn register(shard: &mut Shard<Tally, u32>, colour: u16) -> Option<Registered>
 }
 
 /// Takes a colour, runs what was taken and finishes, and answers how many events that were.
-fn take_turn(shard: &mut Shard<Tally, u32>, colour: u16, core: u16) -> Result<(u16, After), NoTake>
+fn take_turn(
+    shard: &mut Shard<Counter, u32>,
+    colour: u16,
+    core: u16,
+) -> Result<(u16, After), NoTake>
     requires is { IsExample shard.old }
     requires colour { colour < 4 }
     ensures { IsExample shard.new }
@@ -129,7 +133,7 @@ fn take_turn(shard: &mut Shard<Tally, u32>, colour: u16, core: u16) -> Result<(u
     Ok((count, run_and_finish(shard, turn)))
 }
 
-fn steal(shard: &mut Shard<Tally, u32>, colour: u16, to: u16) -> Result<Stolen, NoSteal>
+fn steal(shard: &mut Shard<Counter, u32>, colour: u16, to: u16) -> Result<Stolen, NoSteal>
     requires is { IsExample shard.old }
     requires colour { colour < 4 }
     requires core { to < 2 }
@@ -138,7 +142,7 @@ fn steal(shard: &mut Shard<Tally, u32>, colour: u16, to: u16) -> Result<Stolen, 
     shard.steal(Colour(colour), to)
 }
 
-fn ready(shard: &Shard<Tally, u32>, colour: u16) -> Option<(u16, u64, u128)>
+fn ready(shard: &Shard<Counter, u32>, colour: u16) -> Option<(u16, u64, u128)>
     requires is { IsExample shard.now }
     requires colour { colour < 4 }
 {
@@ -146,7 +150,7 @@ fn ready(shard: &Shard<Tally, u32>, colour: u16) -> Option<(u16, u64, u128)>
 }
 
 /// What the loads that were run on a colour add up to.
-fn total_at(shard: &Shard<Tally, u32>, colour: u16) -> Option<u64>
+fn total_at(shard: &Shard<Counter, u32>, colour: u16) -> Option<u64>
     requires is { IsExample shard.now }
     requires colour { colour < 4 }
 {
@@ -154,18 +158,18 @@ fn total_at(shard: &Shard<Tally, u32>, colour: u16) -> Option<u64>
 }
 
 fn register_meanwhile(
-    shard: &mut Shard<Tally, u32>,
-    turn: &Turn<Tally, u32>,
+    shard: &mut Shard<Counter, u32>,
+    turn: &Turn<Counter, u32>,
     colour: u16,
 ) -> Option<Registered>
     requires is { IsExample shard.old }
     requires colour { colour < 4 }
-    requires stands { TurnStands ⟦<Tally as Trail>⟧
-        ⟦<Tally as Fits<u32>>⟧.fits_under shard.old turn.now }
+    requires stands { TurnStands ⟦<Counter as Trail>⟧
+        ⟦<Counter as Fits<u32>>⟧.fits_under shard.old turn.now }
     ensures is { IsExample shard.new }
     ensures frame { KeepsFrame shard.old shard.new }
-    ensures stands { TurnStands ⟦<Tally as Trail>⟧
-        ⟦<Tally as Fits<u32>>⟧.fits_under shard.new turn.now }
+    ensures stands { TurnStands ⟦<Counter as Trail>⟧
+        ⟦<Counter as Fits<u32>>⟧.fits_under shard.new turn.now }
 {
     let _history = shard.history();
     let event = Event { handler: 0, arg: 0 };
@@ -176,15 +180,15 @@ fn register_meanwhile(
 }
 
 /// A take of the colour of a turn that is out.
-fn take_meanwhile(shard: &mut Shard<Tally, u32>, turn: &Turn<Tally, u32>) -> Option<NoTake>
+fn take_meanwhile(shard: &mut Shard<Counter, u32>, turn: &Turn<Counter, u32>) -> Option<NoTake>
     requires is { IsExample shard.old }
     requires own { IsOwn shard.old turn.now.colour }
-    requires stands { TurnStands ⟦<Tally as Trail>⟧
-        ⟦<Tally as Fits<u32>>⟧.fits_under shard.old turn.now }
+    requires stands { TurnStands ⟦<Counter as Trail>⟧
+        ⟦<Counter as Fits<u32>>⟧.fits_under shard.old turn.now }
     ensures is { IsExample shard.new }
     ensures frame { KeepsFrame shard.old shard.new }
-    ensures stands { TurnStands ⟦<Tally as Trail>⟧
-        ⟦<Tally as Fits<u32>>⟧.fits_under shard.new turn.now }
+    ensures stands { TurnStands ⟦<Counter as Trail>⟧
+        ⟦<Counter as Fits<u32>>⟧.fits_under shard.new turn.now }
 {
     match shard.take(turn.colour(), 0) {
         Err(refusal) => Some(refusal),
@@ -193,15 +197,15 @@ fn take_meanwhile(shard: &mut Shard<Tally, u32>, turn: &Turn<Tally, u32>) -> Opt
 }
 
 /// A steal of the colour of a turn that is out.
-fn steal_meanwhile(shard: &mut Shard<Tally, u32>, turn: &Turn<Tally, u32>) -> Option<NoSteal>
+fn steal_meanwhile(shard: &mut Shard<Counter, u32>, turn: &Turn<Counter, u32>) -> Option<NoSteal>
     requires is { IsExample shard.old }
     requires own { IsOwn shard.old turn.now.colour }
-    requires stands { TurnStands ⟦<Tally as Trail>⟧
-        ⟦<Tally as Fits<u32>>⟧.fits_under shard.old turn.now }
+    requires stands { TurnStands ⟦<Counter as Trail>⟧
+        ⟦<Counter as Fits<u32>>⟧.fits_under shard.old turn.now }
     ensures is { IsExample shard.new }
     ensures frame { KeepsFrame shard.old shard.new }
-    ensures stands { TurnStands ⟦<Tally as Trail>⟧
-        ⟦<Tally as Fits<u32>>⟧.fits_under shard.new turn.now }
+    ensures stands { TurnStands ⟦<Counter as Trail>⟧
+        ⟦<Counter as Fits<u32>>⟧.fits_under shard.new turn.now }
 {
     match shard.steal(turn.colour(), 1) {
         Err(refusal) => Some(refusal),
@@ -220,7 +224,7 @@ struct Meanwhile {
 }
 
 /// Takes a colour, registers, takes and steals it while it runs, and finishes.
-fn take_turn_with_calls(shard: &mut Shard<Tally, u32>, colour: u16) -> Result<Meanwhile, NoTake>
+fn take_turn_with_calls(shard: &mut Shard<Counter, u32>, colour: u16) -> Result<Meanwhile, NoTake>
     requires is { IsExample shard.old }
     requires colour { colour < 4 }
     ensures { IsExample shard.new }
@@ -264,7 +268,7 @@ const TAKEN_OVER: Stolen = Stolen {
 };
 
 /// Whether what is called while colour 2 runs is answered so, where two of its events wait.
-fn answers_meanwhile(shard: &mut Shard<Tally, u32>) -> bool
+fn answers_meanwhile(shard: &mut Shard<Counter, u32>) -> bool
     requires { IsExample shard.old }
     ensures { IsExample shard.new }
 {
@@ -305,7 +309,7 @@ enum Call {
 }
 
 /// Makes a call, and says whether it answers so.
-fn answers(shard: &mut Shard<Tally, u32>, call: Call) -> bool
+fn answers(shard: &mut Shard<Counter, u32>, call: Call) -> bool
     requires { IsExample shard.old }
     ensures { IsExample shard.new }
 {
@@ -330,7 +334,7 @@ fn answers(shard: &mut Shard<Tally, u32>, call: Call) -> bool
 }
 
 /// The first of these calls of a shard that doesn't answer so.
-fn first_wrong(shard: &mut Shard<Tally, u32>, calls: &[Call]) -> Option<usize>
+fn first_wrong(shard: &mut Shard<Counter, u32>, calls: &[Call]) -> Option<usize>
     requires { IsExample shard.old }
     ensures { IsExample shard.new }
 {
@@ -408,9 +412,9 @@ fn a_pinned_colour_is_never_stolen(rt: HostRuntime) {
 }
 
 /// Whether the loads of each state add up to these.
-fn add_up(states: &[Tally], totals: &[u64]) -> bool {
-    for (at, state) in states.iter().enumerate() {
-        if at >= totals.len() || totals[at] != state.total {
+fn add_up(states: &[Counter], totals: &[u64]) -> bool {
+    for (state, total) in states.iter().zip(totals) {
+        if state.total != *total {
             return false;
         }
     }
@@ -420,7 +424,7 @@ fn add_up(states: &[Tally], totals: &[u64]) -> bool {
 /// Whether a drained shard comes apart into so many entries, states whose loads add up to these, and so
 /// many lists of queued events; or nothing where it isn't drained.
 fn comes_apart(
-    shard: Shard<Tally, u32>,
+    shard: Shard<Counter, u32>,
     entries: u64,
     totals: &[u64],
     lists: usize,

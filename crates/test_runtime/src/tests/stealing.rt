@@ -1,18 +1,9 @@
 ghost use Rattle.std.specs.Prelude.{◌≡◌, ◌<◌, ◌≤◌, IfOk};
 
+use super::chains::mark;
 use mely_event::{Colour, Mark, Memory};
 use mely_steal::{ColourList, StealQueue, StealTable, class_of, victims};
 use std::alloc::Global;
-
-fn mark(colour: u16, worth: u128) -> Mark
-    ensures { result ≡ record { colour = record { 0 = colour }; started = 0; worth = worth } }
-{
-    Mark {
-        colour: Colour(colour),
-        started: 0,
-        worth,
-    }
-}
 
 /// Whether a core asks the others in this order.
 fn asks(alloc: Global, core: u16, cores: u16, group: u16, order: &[u16]) -> Result<bool, Memory>
@@ -110,14 +101,10 @@ fn leave(alloc: Global) -> Result<bool, Memory> {
     list.remove(Colour(1));
     list.remove(Colour(2));
     let has_zero = list.contains(Colour(0));
-    let left = (list.first(), list.at(1), list.at(2));
+    let is_left = list.first() == Some(Colour(4)) && list.at(1) == Some(Colour(3));
+    let is_all = list.at(2) == None;
     list.remove(Colour(4));
-    Ok(
-        has_three
-            && !has_zero
-            && left == (Some(Colour(4)), Some(Colour(3)), None)
-            && list.first() == Some(Colour(3)),
-    )
+    Ok(has_three && !has_zero && is_left && is_all && list.first() == Some(Colour(3)))
 }
 
 #[test]
@@ -132,8 +119,8 @@ fn keeps_marks(alloc: Global) -> Result<bool, Memory> {
     table.enter(mark(1, 10));
     table.change(mark(0, 50));
     table.remove(Colour(0));
-    let marks = (table.mark(Colour(0)), table.mark(Colour(1)));
-    Ok(marks == (mark(0, 50), mark(1, 10)) && table.pick() == None)
+    let are_kept = table.mark(Colour(0)) == mark(0, 50) && table.mark(Colour(1)) == mark(1, 10);
+    Ok(are_kept && table.pick() == None)
 }
 
 #[test]

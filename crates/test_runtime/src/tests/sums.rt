@@ -100,9 +100,9 @@ fn post(weave: &mut Weave<Purse, u64>, colour: u16, arg: u16, coins: Option<u64>
     weave.post(Colour(colour), event, coins).is_ok()
 }
 
-/// How many coins there are at the end where two events go round with a thousand, and how many events
-/// were lost.
-fn coins_at_end<R: Wait>(rt: &R, alloc: Global) -> Result<Option<(u64, usize)>, Memory> {
+/// Whether there are 1300 coins at the end where two events go round with a thousand, and no event was
+/// lost.
+fn are_kept<R: Wait>(rt: &R, alloc: Global) -> Result<bool, Memory> {
     let mut weave = weave_of(alloc)?;
     let is_posted = post(&mut weave, 0, 5, Some(1000)) && post(&mut weave, 2, 2, None);
     let parts = play(rt, weave, &Paying { colours: 3 }, &[(0, 7), (1, 9)]);
@@ -110,10 +110,10 @@ fn coins_at_end<R: Wait>(rt: &R, alloc: Global) -> Result<Option<(u64, usize)>, 
     for purse in &parts.states {
         coins = coins.wrapping_add(purse.value);
     }
-    Ok(is_posted.then_some((coins, parts.lost.len())))
+    Ok(is_posted && coins == 1300 && parts.lost.is_empty())
 }
 
 #[test]
 fn coins_that_go_round_are_as_many_at_the_end(rt: HostRuntime) {
-    assert!(rt; coins_at_end(&rt, rt.alloc()) == Ok(Some((1300, 0))));
+    assert!(rt; are_kept(&rt, rt.alloc()) == Ok(true));
 }

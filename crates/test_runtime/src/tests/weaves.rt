@@ -1,9 +1,10 @@
 //! Steps and posts of small weaves, with the histories that they write.
 ghost use Rattle.std.specs.Prelude.{◌≡◌, ◌<◌, ◌≤◌, IfOk};
 ghost use Rattle.mely_history.specs.Setup.{shape_of, colours_of};
+ghost use Rattle.mely_weave.specs.Making.{AreInitialBelow};
 ghost use Rattle.test_runtime.specs.Examples.{IsExample};
 
-mod sending;
+pub(super) mod sending;
 
 use mely_event::{Colour, Event, Fits, Handlers, Mark, Memory, Trail};
 use mely_history::{Entry, History, Judged, Registered, Setup, Shape, judge};
@@ -67,14 +68,23 @@ fn unlisted_setup(
     }
 }
 
-/// A weave of a setup, at first.
-fn weave_of(alloc: Global, setup: &Setup) -> Result<Weave<Listing, u8>, Memory>
-    ensures { IfOk result (λ weave. weave.setup ≡ setup.now) }
+/// A state for each colour of a setup, on which nothing was run.
+pub(super) fn states_of(alloc: Global, setup: &Setup) -> Result<Vec<Listing>, Memory>
+    ensures { IfOk result (λ states. AreInitialBelow (λ state. state.log.colour) (λ state.
+        state.log.events) (colours_of setup.now) states.items) }
 {
     let mut states = Vec::new(alloc);
     for colour in 0..setup.colours() {
         states.push(listing_of(alloc, colour as u16))?;
     }
+    Ok(states)
+}
+
+/// A weave of a setup, at first.
+fn weave_of(alloc: Global, setup: &Setup) -> Result<Weave<Listing, u8>, Memory>
+    ensures { IfOk result (λ weave. weave.setup ≡ setup.now) }
+{
+    let states = states_of(alloc, setup)?;
     match Weave::new(alloc, setup, states) {
         Ok(weave) => Ok(weave),
         Err(_) => Err(Memory),
@@ -134,48 +144,49 @@ fn comes_so(weave: &mut Weave<Listing, u8>, setup: &Setup, part: Part) -> bool
     }
 }
 
-/// A weave of a setup after these parts, and whether each of them came so.
-fn played(
-    alloc: Global,
-    setup: &Setup,
-    parts: &[Part],
-) -> Result<(Weave<Listing, u8>, bool), Memory>
+/// Plays these parts, and says whether each of them comes so.
+fn play(weave: &mut Weave<Listing, u8>, setup: &Setup, parts: &[Part]) -> bool
+    requires of_setup { weave.old.setup ≡ setup.now }
     requires colours { 2 ≤ colours_of setup.now }
     requires example { IsExample (shape_of setup.now).cores (colours_of setup.now) setup.now }
-    ensures { IfOk result (λ played. played.0.setup ≡ setup.now) }
+    ensures { weave.new.setup ≡ setup.now }
 {
-    let mut weave = weave_of(alloc, setup)?;
-    let mut are_so = true;
     'parts: for part in parts {
-        are_so = comes_so(&mut weave, setup, *part) && are_so;
+        if !comes_so(weave, setup, *part) {
+            return false;
+        }
     }
-    Ok((weave, are_so))
+    true
 }
 
-/// Drains a weave. How many entries are listed of it then, and what it comes apart into, where nothing
-/// is lost.
-fn drained<R: Wait>(
-    rt: &R,
-    mut weave: Weave<Listing, u8>,
-) -> Option<(usize, WeaveParts<Listing, u8>)>
+/// How many entries these histories list.
+fn listed_in(histories: &[History]) -> usize {
+    let mut entries: usize = 0;
+    for history in histories {
+        entries = entries.wrapping_add(entries_of(history).len());
+    }
+    entries
+}
+
+/// Drains a weave. What it comes apart into, where nothing is lost.
+fn drained<R: Wait>(rt: &R, mut weave: Weave<Listing, u8>) -> Option<WeaveParts<Listing, u8>>
     requires colours { 2 ≤ colours_of weave.setup }
     requires example { IsExample (shape_of weave.setup).cores
         (colours_of weave.setup) weave.setup }
 {
     let is_empty = weave.drain(rt, &Sending) == Drained::Empty;
-    let entries = entries_of(weave.history(0)).len();
     let parts = weave.into_parts();
     if !is_empty || !parts.lost.is_empty() || parts.histories.len() != 1 {
         return None;
     }
-    Some((entries, parts))
+    Some(parts)
 }
 
 /// A first event of handler 0 with argument 0 on colour 1, and one of handler 1
 /// that registers such a one.
 const FIRST: Event = Event { handler: 0, arg: 0 };
 
-const SENDS: Event = Event { handler: 1, arg: 1 };
+pub(super) const SENDS: Event = Event { handler: 1, arg: 1 };
 
 /// The history that a late report writes.
 static LATE_HISTORY: [Entry; 7] = [
@@ -292,9 +303,11 @@ static LATE: [Part; 17] = [
     Part::Chain(1, 1, None),
 ];
 
-/// Whether a weave is left by the late report: its states, and how many lists of queued events.
+/// Whether a weave is left by the late report: how many entries are listed, its states, and how many
+/// lists of queued events.
 fn is_left_late(parts: &WeaveParts<Listing, u8>) -> bool {
-    has_run(parts.states.get(0), &[SENDS])
+    listed_in(&parts.histories) == 9
+        && has_run(parts.states.get(0), &[SENDS])
         && has_run(parts.states.get(1), &[FIRST, FIRST])
         && parts.queued.len() == 2
 }
@@ -302,13 +315,12 @@ fn is_left_late(parts: &WeaveParts<Listing, u8>) -> bool {
 /// Whether the late report finds no mark, and writes its history.
 fn is_late<R: Wait>(rt: &R, alloc: Global) -> Result<bool, Memory> {
     let setup = setup_of(2, 2, 1)?;
-    let (weave, are_so) = played(alloc, &setup, &LATE)?;
+    let mut weave = weave_of(alloc, &setup)?;
+    let are_so = play(&mut weave, &setup, &LATE);
     let is_written = are_so && entries_of(weave.history(0)) == LATE_HISTORY.as_slice();
     let is_legal = judge(&setup, entries_of(weave.history(0))) == Judged::Legal;
     match drained(rt, weave) {
-        Some((entries, parts)) => {
-            Ok(is_written && is_legal && entries == 9 && is_left_late(&parts))
-        }
+        Some(parts) => Ok(is_written && is_legal && is_left_late(&parts)),
         None => Ok(false),
     }
 }
@@ -358,26 +370,29 @@ static BETWEEN: [Part; 12] = [
     Part::Chain(1, 1, None),
 ];
 
-/// What a weave of a setup comes apart into after these parts, once it is drained, with how many
-/// entries are listed.
+/// What a weave of a setup comes apart into after these parts, once it is drained, where each of
+/// them comes so.
 fn apart_after<R: Wait>(
     rt: &R,
     alloc: Global,
     setup: &Setup,
     parts: &[Part],
-) -> Result<Option<(usize, WeaveParts<Listing, u8>)>, Memory>
+) -> Option<WeaveParts<Listing, u8>>
     requires colours { 2 ≤ colours_of setup.now }
     requires example { IsExample (shape_of setup.now).cores (colours_of setup.now) setup.now }
 {
-    let (weave, are_so) = played(alloc, setup, parts)?;
+    let Ok(mut weave) = weave_of(alloc, setup) else {
+        return None;
+    };
+    let are_so = play(&mut weave, setup, parts);
     let drained = drained(rt, weave);
-    Ok(if are_so { drained } else { None })
+    if are_so { drained } else { None }
 }
 
 /// Whether a registration between finish and push is told.
 fn is_told_between<R: Wait>(rt: &R, alloc: Global) -> Result<bool, Memory> {
     let setup = setup_of(2, 2, 1)?;
-    Ok(apart_after(rt, alloc, &setup, &BETWEEN)?.is_some())
+    Ok(apart_after(rt, alloc, &setup, &BETWEEN).is_some())
 }
 
 #[test]
@@ -453,8 +468,10 @@ fn have(histories: &[History], entries: &[Entry]) -> bool {
 /// Whether a pinned colour stays on its core.
 fn is_pinned<R: Wait>(rt: &R, alloc: Global) -> Result<bool, Memory> {
     let setup = setup_with(2, 4, 1, 5, 1)?;
-    match apart_after(rt, alloc, &setup, &PINNED)? {
-        Some((entries, parts)) => Ok(entries == 7 && have(&parts.histories, &PINNED_HAS)),
+    match apart_after(rt, alloc, &setup, &PINNED) {
+        Some(parts) => {
+            Ok(listed_in(&parts.histories) == 7 && have(&parts.histories, &PINNED_HAS))
+        }
         None => Ok(false),
     }
 }
@@ -547,6 +564,14 @@ fn has_room(alloc: Global, setup: &Setup) -> bool {
     room.is_ok()
 }
 
+/// Whether a weave is left by twenty events on two of its colours, in batches of this size.
+fn is_left_by_batches(parts: &WeaveParts<Listing, u8>, batch: u16, entries: usize) -> bool {
+    alternate(&parts.histories, entries, batch)
+        && has_run_ten(parts.states.get(0))
+        && has_run_ten(parts.states.get(2))
+        && has_run(parts.states.get(1), &[])
+}
+
 /// Whether twenty events on two of three colours, in batches of this size, write so many entries in
 /// turn.
 fn batches_leave<R: Wait>(
@@ -559,15 +584,10 @@ fn batches_leave<R: Wait>(
     let mut weave = weave_of(alloc, &setup)?;
     let is_posted = post_twenty(&mut weave) && weave.state(C1).is_some();
     match drained(rt, weave) {
-        Some((written, parts)) => Ok(
-            is_posted
-                && has_room(alloc, &setup)
-                && written == entries
-                && alternate(&parts.histories, entries, batch)
-                && has_run_ten(parts.states.get(0))
-                && has_run_ten(parts.states.get(2))
-                && has_run(parts.states.get(1), &[]),
-        ),
+        Some(parts) => {
+            let is_left = is_left_by_batches(&parts, batch, entries);
+            Ok(is_posted && is_left && has_room(alloc, &setup))
+        }
         None => Ok(false),
     }
 }
@@ -594,10 +614,11 @@ fn are_counted(histories: Vec<History>) -> bool {
 /// Whether a history that is not listed is only counted.
 fn is_counted<R: Wait>(rt: &R, alloc: Global) -> Result<bool, Memory> {
     let setup = unlisted_setup(1, 2, 1, 15, 0)?;
-    let (weave, are_so) = played(alloc, &setup, &[Part::Post(0, 0, 0)])?;
+    let mut weave = weave_of(alloc, &setup)?;
+    let are_so = play(&mut weave, &setup, &[Part::Post(0, 0, 0)]);
     let is_one = are_so && weave.history(0).entries().is_none() && weave.history(0).len() == 1;
     match drained(rt, weave) {
-        Some((entries, parts)) => Ok(is_one && entries == 0 && are_counted(parts.histories)),
+        Some(parts) => Ok(is_one && are_counted(parts.histories)),
         None => Ok(false),
     }
 }

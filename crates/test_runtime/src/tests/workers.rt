@@ -12,6 +12,7 @@ use ledger::{Forwarding, Ledger, NOTE, Pass};
 use lent::{step_lent, steps_lent};
 use mely_event::{Colour, Event, Fits, Handlers, Mark, Memory, Trail};
 use mely_history::{After, NoSteal, NoTake, Registered, Setup, Shape, Stolen};
+use mely_steal::victims;
 use mely_worker::{Access, App, Delivery, IdleWorker, Made, Outs, Worker};
 use script::{Call, Script};
 use std::alloc::Global;
@@ -483,10 +484,8 @@ fn may_cross<T: Send>(_value: &T) {}
 
 /// Whether a worker rests and wakes without anything in it.
 fn is_at_rest(rt: &(impl AllocGlobal + Abort)) -> Result<bool, Memory> {
-    let mut victims = Vec::new(rt.alloc());
-    victims.push(2)?;
-    victims.push(0)?;
-    let worker: Worker<Ledger, u8> = Worker::new(rt.alloc(), 3, victims, 1000)?;
+    let order = victims(rt.alloc(), 3, 4, 2)?;
+    let worker: Worker<Ledger, u8> = Worker::new(rt.alloc(), 3, order, 1000)?;
     let is_new = !worker.is_halted() && worker.lost().is_empty();
     assert!(rt; worker.is_free());
     let worker: Worker<Ledger, u8> = worker.rest().wake();

@@ -1,9 +1,8 @@
 //! What the owner of a site adds to its responses.
 
-use super::site_options::{is_sent, site_with};
-use std::alloc::Global;
-use std::test::Fail;
-use sws_site::{Additions, HeaderFault, SiteFault, SiteOptions, TypeFault};
+use super::site_options::{all, is_sent, site_with};
+use std::process::Abort;
+use sws_site::{Additions, AgeFault, HeaderFault, TypeFault};
 
 /// A page, a folder with an index, and a page for names that no file has.
 static FILES: [(&[u8], &[u8]); 4] = [
@@ -13,47 +12,52 @@ static FILES: [(&[u8], &[u8]); 4] = [
     (b"404.html", b"Lost?\n"),
 ];
 
-/// Two lines, an age of an hour, and types of which the first of an extension holds.
-fn added(alloc: Global) -> Option<Additions> {
-    let mut added = Additions::none(alloc);
-    added.add_header(alloc, b"X-Frame-Options", b"DENY").ok()?;
-    added.add_header(alloc, b"Vary", b"Accept, Origin").ok()?;
-    added
-        .add_type(alloc, b"html", b"text/html; charset=utf-8")
-        .ok()?;
-    added.add_type(alloc, b"HTML", b"text/plain").ok()?;
-    added.keep_for(3600);
-    Some(added)
-}
+/// Ends of names with their ages, of which the longest decides.
+static AGES: [(&[u8], u32); 3] = [(b"m", 5), (b".wasm", 86_400), (b"sm", 7)];
 
-/// The options of a site with these additions.
-fn options(added: Additions) -> SiteOptions {
-    SiteOptions {
-        removes_dot_segments: true,
-        knows_more_types: true,
-        sends_not_found_page: true,
-        redirects_to_folders: true,
-        refuses_ambiguous: true,
-        keeps_alive: true,
-        reads_if_range: true,
-        answers: 1000,
-        input: 4_194_304,
-        max_files: 65_536,
-        max_bytes: 1_073_741_824,
-        added,
+/// Two lines, and types of which the first of an extension holds.
+static ADDED_LINES: [(&[u8], &[u8]); 2] = [
+    (b"X-Frame-Options", b"DENY"),
+    (b"Vary", b"Accept, Origin"),
+];
+
+static ADDED_TYPES: [(&[u8], &[u8]); 2] = [
+    (b"html", b"text/html; charset=utf-8"),
+    (b"HTML", b"text/plain"),
+];
+
+/// These, those ages, and an age of an hour for all others.
+fn added(rt: &(impl AllocGlobal + Abort)) -> Additions {
+    let mut added = Additions::none(rt.alloc());
+    for &(name, value) in &ADDED_LINES {
+        added
+            .add_header(rt.alloc(), name, value)
+            .expect(rt, "a line");
     }
+    for &(extension, media_type) in &ADDED_TYPES {
+        added
+            .add_type(rt.alloc(), extension, media_type)
+            .expect(rt, "a type");
+    }
+    for &(end, seconds) in &AGES {
+        added
+            .keep_by_end(rt.alloc(), end, seconds)
+            .expect(rt, "an end");
+    }
+    added.keep_for(3600);
+    added
 }
 
-/// Heads of requests, and the responses to them. The lines stand in each head, and the age in those
-/// of 200, 206 and 304 (RFC 9111, section 5.2.2.1).
-static SENT: [(&[u8], &[u8]); 9] = [
+/// Heads of requests, and the responses to them. The lines stand in each head, and the age of the
+/// file in those of 200, 206 and 304 (RFC 9111, section 5.2.2.1).
+static SENT: [(&[u8], &[u8]); 11] = [
     (
         b"GET /a.html HTTP/1.1\r\nHost: h\r\n\r\n",
         b"HTTP/1.1 200 OK\r\nServer: sws\r\nConnection: keep-alive\r\nLast-Modified: Sun, 06 Nov 1994 08:49:37 GMT\r\nCache-Control: max-age=3600\r\nContent-Type: text/html; charset=utf-8\r\nContent-Length: 10\r\nX-Frame-Options: DENY\r\nVary: Accept, Origin\r\n\r\n0123456789",
     ),
     (
         b"GET /b.wasm HTTP/1.0\r\n\r\n",
-        b"HTTP/1.1 200 OK\r\nServer: sws\r\nConnection: close\r\nLast-Modified: Sun, 06 Nov 1994 08:49:37 GMT\r\nCache-Control: max-age=3600\r\nContent-Type: application/wasm\r\nContent-Length: 1\r\nX-Frame-Options: DENY\r\nVary: Accept, Origin\r\n\r\nb",
+        b"HTTP/1.1 200 OK\r\nServer: sws\r\nConnection: close\r\nLast-Modified: Sun, 06 Nov 1994 08:49:37 GMT\r\nCache-Control: max-age=86400\r\nContent-Type: application/wasm\r\nContent-Length: 1\r\nX-Frame-Options: DENY\r\nVary: Accept, Origin\r\n\r\nb",
     ),
     (
         b"GET /a.html HTTP/1.1\r\nHost: h\r\nRange: bytes=2-3\r\n\r\n",
@@ -62,6 +66,14 @@ static SENT: [(&[u8], &[u8]); 9] = [
     (
         b"GET /a.html HTTP/1.1\r\nHost: h\r\nIf-Modified-Since: Sun, 06 Nov 1994 08:49:37 GMT\r\n\r\n",
         b"HTTP/1.1 304 Not Modified\r\nServer: sws\r\nConnection: keep-alive\r\nLast-Modified: Sun, 06 Nov 1994 08:49:37 GMT\r\nCache-Control: max-age=3600\r\nX-Frame-Options: DENY\r\nVary: Accept, Origin\r\n\r\n",
+    ),
+    (
+        b"GET /b.wasm HTTP/1.1\r\nHost: h\r\nRange: bytes=0-\r\n\r\n",
+        b"HTTP/1.1 206 Partial Content\r\nServer: sws\r\nConnection: keep-alive\r\nLast-Modified: Sun, 06 Nov 1994 08:49:37 GMT\r\nCache-Control: max-age=86400\r\nContent-Range: bytes 0-0/1\r\nContent-Type: application/wasm\r\nContent-Length: 1\r\nX-Frame-Options: DENY\r\nVary: Accept, Origin\r\n\r\nb",
+    ),
+    (
+        b"GET /b.wasm HTTP/1.1\r\nHost: h\r\nIf-Modified-Since: Sun, 06 Nov 1994 08:49:37 GMT\r\n\r\n",
+        b"HTTP/1.1 304 Not Modified\r\nServer: sws\r\nConnection: keep-alive\r\nLast-Modified: Sun, 06 Nov 1994 08:49:37 GMT\r\nCache-Control: max-age=86400\r\nX-Frame-Options: DENY\r\nVary: Accept, Origin\r\n\r\n",
     ),
     (
         b"GET /docs HTTP/1.1\r\nHost: h\r\n\r\n",
@@ -87,19 +99,10 @@ static SENT: [(&[u8], &[u8]); 9] = [
 
 #[test]
 fn each_head_has_what_is_added(rt: HostRuntime) {
-    let added = added(rt.alloc());
-    let added = added.and_then(|added| added.copy(rt.alloc()).ok());
-    assert!(rt; added.is_some());
-    let Some(added) = added else {
-        return;
-    };
-    let site: Result<_, SiteFault> = site_with(rt.alloc(), &FILES, options(added));
+    let added = added(&rt).copy(rt.alloc()).expect(&rt, "memory");
+    let site = site_with(&rt, &FILES, all(added));
     for &(head, response) in &SENT {
-        let is_right = match &site {
-            Ok(site) => is_sent(&rt, site, head, response),
-            Err(_) => false,
-        };
-        assert!(rt; is_right);
+        assert!(rt; is_sent(&rt, &site, head, response));
     }
 }
 
@@ -139,16 +142,62 @@ static NO_TYPES: [(&[u8], &[u8], TypeFault); 10] = [
     ),
 ];
 
+/// Ends that get no age where `.css` has one, and why.
+static NO_ENDS: [(&[u8], AgeFault); 4] = [
+    (b"", AgeFault::BadEnd),
+    (b"css/a.css", AgeFault::BadEnd),
+    (b"a\0", AgeFault::BadEnd),
+    (b".css", AgeFault::GivenTwice),
+];
+
+/// Whether this is no line, for that reason.
+fn is_no_line(
+    rt: &(impl AllocGlobal + Abort),
+    name: &[u8],
+    value: &[u8],
+    fault: HeaderFault,
+) -> bool {
+    let mut added = Additions::none(rt.alloc());
+    let is_told = added.add_header(rt.alloc(), name, value) == Err(fault);
+    is_told && added.headers.text().is_empty()
+}
+
+/// Whether this is no type, for that reason.
+fn is_no_type(
+    rt: &(impl AllocGlobal + Abort),
+    extension: &[u8],
+    media_type: &[u8],
+    fault: TypeFault,
+) -> bool {
+    let mut added = Additions::none(rt.alloc());
+    added.add_type(rt.alloc(), extension, media_type) == Err(fault)
+}
+
 #[test]
 fn what_is_no_line_or_type_is_not_added(rt: HostRuntime) {
-    let mut added = Additions::none(rt.alloc());
     for &(name, value, fault) in &NO_LINES {
-        assert!(rt; added.add_header(rt.alloc(), name, value) == Err(fault));
+        assert!(rt; is_no_line(&rt, name, value, fault));
     }
     for &(extension, media_type, fault) in &NO_TYPES {
-        assert!(rt; added.add_type(rt.alloc(), extension, media_type) == Err(fault));
+        assert!(rt; is_no_type(&rt, extension, media_type, fault));
     }
-    assert!(rt; added.headers.text().is_empty());
+}
+
+/// Whether a site of these additions gives no age to an end, for that reason.
+fn is_no_end(rt: &(impl AllocGlobal + Abort), end: &[u8], fault: AgeFault) -> bool {
+    let mut added = Additions::none(rt.alloc());
+    added
+        .keep_by_end(rt.alloc(), b".css", 60)
+        .expect(rt, "an end");
+    let is_told = added.keep_by_end(rt.alloc(), end, 5) == Err(fault);
+    is_told && added.ages.longest(b"a.css") == Some(60)
+}
+
+#[test]
+fn an_end_that_no_name_has_or_that_has_an_age_gets_none(rt: HostRuntime) {
+    for &(end, fault) in &NO_ENDS {
+        assert!(rt; is_no_end(&rt, end, fault));
+    }
 }
 
 /// A value of 1,000 bytes.

@@ -1,92 +1,89 @@
+//! The answers to heads, and the targets of heads.
+
 use super::files::{THREE_FILES, site_of};
-use std::alloc::Global;
+use std::process::Abort;
 use sws_answer::laws::{answers_only_grow, every_answer, responses_only_grow};
-use sws_answer::{Asked, PathRoom, answer, ask, target};
-use sws_link::Memory;
+use sws_answer::{Answer, Asked, PathRoom, answer, ask, target};
 use sws_parts::Parts;
 use sws_site::Site;
 
-/// The site of three small files, with the seconds of its date.
-fn three_files(alloc: Global, date: Option<u32>) -> Result<Site, Memory> {
-    match site_of(alloc, &THREE_FILES, date) {
-        Ok(site) => Ok(site),
-        Err(_) => Err(Memory),
-    }
-}
-
-/// The code of an answer of the site with this date, whether it closes, and how many bytes are sent.
-fn told_of(
-    alloc: Global,
-    date: Option<u32>,
+/// The answer to what is asked.
+///
+/// It says nothing of it, so that no test carries what `answer` promises.
+pub(super) fn answered<'s>(
+    rt: &(impl AllocGlobal + Abort),
+    site: &'s Site,
     asked: &Asked<'_>,
-) -> Result<(u16, bool, usize), Memory> {
-    let site = three_files(alloc, date)?;
-    let mut room = PathRoom::new(alloc)?;
-    let answer = answer(&site, asked, false, &mut room);
-    Ok((answer.code, answer.closes, answer.parts.left()))
-}
-
-/// Whether this head and this body are sent for a head.
-fn is_sent(
-    alloc: Global,
-    date: Option<u32>,
-    asked: &[u8],
     last: bool,
-    head: &[u8],
-    body: &[u8],
-) -> Result<bool, Memory> {
-    let site = three_files(alloc, date)?;
-    let mut room = PathRoom::new(alloc)?;
-    let mut parts = answer(&site, &ask(asked), last, &mut room).parts;
-    Ok(has_parts(&mut parts, head, body))
+) -> Answer<'s> {
+    let mut room = PathRoom::new(rt.alloc()).expect(rt, "memory");
+    answer(site, asked, last, &mut room)
 }
 
-/// Whether these are the parts, of which the first is sent.
-fn has_parts(parts: &mut Parts<'_>, head: &[u8], body: &[u8]) -> bool {
-    let is_whole = parts.left() == head.len().saturating_add(body.len());
-    let is_head = parts.front() == head;
+/// Whether these bytes are sent, of which the head is the first part.
+pub(super) fn sends(parts: &mut Parts<'_>, response: &[u8]) -> bool {
+    let Some(body) = response.strip_prefix(parts.front()) else {
+        return false;
+    };
     parts.advance(parts.front().len());
-    is_whole && is_head && parts.front() == body
+    parts.front() == body
 }
 
-/// What is told of a request for a path of a piece so many times.
-fn told_of_path(alloc: Global, piece: &[u8], count: usize) -> Result<(u16, bool, usize), Memory> {
-    let path = piece.repeat(alloc, count)?;
-    let head = [b"GET /", path.as_slice(), b" HTTP/1.1\r\nHost: x\r\n\r\n"];
-    told_of(alloc, None, &ask(&head.concat(alloc)?))
+/// Whether the answer to what is asked has this code, closes or doesn't, and has so many bytes.
+fn is_told(
+    rt: &(impl AllocGlobal + Abort),
+    asked: &Asked<'_>,
+    code: u16,
+    closes: bool,
+    left: usize,
+) -> bool {
+    let site = site_of(rt, &THREE_FILES, None);
+    let answer = answered(rt, &site, asked, false);
+    answer.code == code && answer.closes == closes && answer.parts.left() == left
 }
 
 #[test]
 fn a_path_that_outgrows_the_room_names_no_file(rt: HostRuntime) {
-    assert!(rt; told_of_path(rt.alloc(), b"%41", 9000) == Ok((404, false, 99)));
+    let path = b"%41".repeat(rt.alloc(), 9000).expect(&rt, "memory");
+    let head = [b"GET /", path.as_slice(), b" HTTP/1.1\r\nHost: x\r\n\r\n"];
+    let head = head.concat(rt.alloc()).expect(&rt, "memory");
+    assert!(rt; is_told(&rt, &ask(&head), 404, false, 99));
 }
 
-/// Heads, whether the answer to each is the last one, the head and the body that are sent, and how
-/// many bytes these are.
-static RESPONSES: [(&[u8], bool, &[u8], &[u8], usize); 2] = [
+/// Whether an answer is this response, and as long.
+fn is_response(answer: Answer<'_>, response: &[u8]) -> bool {
+    let mut parts = answer.parts;
+    parts.left() == response.len() && sends(&mut parts, response)
+}
+
+/// Heads, whether the answer to each is the last one, the response, and how many bytes it has.
+static RESPONSES: [(&[u8], bool, &[u8], usize); 2] = [
     (
         b"GET / HTTP/1.1\r\nHost: x\r\n\r\n",
         true,
-        b"HTTP/1.1 200 OK\r\nServer: sws\r\nConnection: close\r\nContent-Type: text/html\r\nContent-Length: 3\r\n\r\n",
-        b"hi\n",
+        b"HTTP/1.1 200 OK\r\nServer: sws\r\nConnection: close\r\nContent-Type: text/html\r\nContent-Length: 3\r\n\r\nhi\n",
         98,
     ),
     (
         b"HEAD /a/b.txt HTTP/1.1\r\nHost: x\r\n\r\n",
         false,
         b"HTTP/1.1 200 OK\r\nServer: sws\r\nContent-Type: text/plain\r\nContent-Length: 10\r\n\r\n",
-        b"",
         78,
     ),
 ];
 
 #[test]
 fn a_response_is_a_head_and_a_body(rt: HostRuntime) {
-    for &(asked, last, head, body, count) in &RESPONSES {
-        assert!(rt; is_sent(rt.alloc(), None, asked, last, head, body) == Ok(true));
-        assert!(rt; head.len().saturating_add(body.len()) == count);
+    let site = site_of(&rt, &THREE_FILES, None);
+    for &(head, last, response, count) in &RESPONSES {
+        assert!(rt; response.len() == count);
+        assert!(rt; is_response(answered(&rt, &site, &ask(head), last), response));
     }
-    assert!(rt; told_of(rt.alloc(), None, &Asked::TooLong) == Ok((431, true, 162)));
+}
+
+#[test]
+fn a_head_that_is_too_long_is_refused(rt: HostRuntime) {
+    assert!(rt; is_told(&rt, &Asked::TooLong, 431, true, 162));
     every_answer();
     answers_only_grow();
     responses_only_grow();

@@ -1,5 +1,9 @@
-//! The files of the sites that these tests load.
-use std::alloc::{AllocError, Global};
+//! What the tests make of their rows: owned bytes, files, and the sites of these.
+
+ghost use Rattle.sws_site.specs.Loading.{IsInitialFolder};
+
+use std::alloc::Global;
+use std::process::Abort;
 use sws_link::{Folder, SureFolder};
 use sws_site::{Site, SiteFault};
 
@@ -7,34 +11,51 @@ use sws_site::{Site, SiteFault};
 pub(super) type Files = Vec<(Vec<u8>, Vec<u8>)>;
 
 /// Three small files.
-pub(super) const THREE_FILES: [(&[u8], &[u8]); 3] = [
+pub(super) static THREE_FILES: [(&[u8], &[u8]); 3] = [
     (b"index.html", b"hi\n"),
     (b"a/b.txt", b"0123456789"),
     (b"empty.css", b""),
 ];
 
-fn file_of(alloc: Global, name: &[u8], contents: &[u8]) -> Result<(Vec<u8>, Vec<u8>), AllocError> {
-    let name = name.to_vec(alloc)?;
-    let contents = contents.to_vec(alloc)?;
-    Ok((name, contents))
+/// A copy of these bytes.
+pub(super) fn owned(rt: &(impl AllocGlobal + Abort), bytes: &[u8]) -> Vec<u8> {
+    Vec::from_slice(rt.alloc(), bytes).expect(rt, "memory")
 }
 
 /// The files of these names and contents.
-pub(super) fn files_of(alloc: Global, files: &[(&[u8], &[u8])]) -> Result<Files, AllocError> {
-    let mut owned = Vec::new(alloc);
-    for (name, contents) in files {
-        owned.push(file_of(alloc, name, contents)?)?;
+pub(super) fn files_of(rt: &(impl AllocGlobal + Abort), rows: &[(&[u8], &[u8])]) -> Files {
+    let mut files = Vec::new(rt.alloc());
+    for &(name, contents) in rows {
+        let file = (owned(rt, name), owned(rt, contents));
+        files.push(file).expect(rt, "memory");
     }
-    Ok(owned)
+    files
 }
 
-/// The site of these files, with the seconds of its date.
-pub(super) fn site_of(
+/// What comes of loading a plain site.
+///
+/// It says nothing of that, so that no test carries what `Site::load` promises.
+pub(super) fn load<F: Folder>(
     alloc: Global,
-    files: &[(&[u8], &[u8])],
+    folder: &mut F,
     date: Option<u32>,
-) -> Result<Site, SiteFault> {
-    let mut folder = SureFolder::new(alloc, files_of(alloc, files)?);
+) -> Result<Site, SiteFault>
+    requires { IsInitialFolder (F.tells folder.old) }
+{
+    let date = match date {
+        Some(date) => Some(u64::from(date)),
+        None => None,
+    };
+    Site::load(alloc, folder, date)
+}
+
+/// The plain site of these files, with the seconds of its date.
+pub(super) fn site_of(
+    rt: &(impl AllocGlobal + Abort),
+    rows: &[(&[u8], &[u8])],
+    date: Option<u32>,
+) -> Site {
+    let mut folder = SureFolder::new(rt.alloc(), files_of(rt, rows));
     folder.open("site");
-    Site::load(alloc, &mut folder, date.map(u64::from))
+    load(rt.alloc(), &mut folder, date).expect(rt, "a site")
 }

@@ -1,18 +1,24 @@
-use std::alloc::{AllocError, Global};
+use std::process::Abort;
 use sws_request::{
     Cut, NotARequest, RequestView, Scan, cut, cut_is_stable, empty_lines_change_nothing, scan, view,
 };
 
+/// A piece so many times.
+fn repeated(rt: &(impl AllocGlobal + Abort), piece: &[u8], count: usize) -> Vec<u8> {
+    piece.repeat(rt.alloc(), count).expect(rt, "memory")
+}
+
 /// A text that has a piece so many times between its front and its back.
 fn filled(
-    alloc: Global,
+    rt: &(impl AllocGlobal + Abort),
     front: &[u8],
     piece: &[u8],
     count: usize,
     back: &[u8],
-) -> Result<Vec<u8>, AllocError> {
-    let middle = piece.repeat(alloc, count)?;
-    [front, middle.as_slice(), back].concat(alloc)
+) -> Vec<u8> {
+    let middle = repeated(rt, piece, count);
+    let pieces = [front, middle.as_slice(), back];
+    pieces.concat(rt.alloc()).expect(rt, "memory")
 }
 
 /// Bytes, and where their first head ends.
@@ -73,25 +79,14 @@ fn scans_so(bytes: &[u8], from: Scan, want: Cut, stop: Scan) -> bool {
     found == want && next == stop
 }
 
-/// Whether a search goes on so in so many bytes of a line.
-fn fills_so(
-    alloc: Global,
-    count: usize,
-    from: Scan,
-    want: Cut,
-    stop: Scan,
-) -> Result<bool, AllocError> {
-    let rest = b"x".repeat(alloc, count)?;
-    Ok(scans_so(&rest, from, want, stop))
-}
-
 #[test]
 fn a_search_goes_on_where_it_stopped(rt: HostRuntime) {
     assert!(rt; Scan::start() == START);
     for &(bytes, from, want, stop) in &SEARCHES {
         assert!(rt; scans_so(bytes, from, want, stop));
     }
-    assert!(rt; fills_so(rt.alloc(), 8189, BLANK, Cut::TooLong, START) == Ok(true));
+    let rest = repeated(&rt, b"x", 8189);
+    assert!(rt; scans_so(&rest, BLANK, Cut::TooLong, START));
 }
 
 /// The front and the back of a head that is filled up.
@@ -107,35 +102,12 @@ static LENGTHS: [(&[u8], usize, &[u8], Cut); 4] = [
     (b"", 8192, b"", Cut::TooLong),
 ];
 
-fn is_cut_so(
-    alloc: Global,
-    front: &[u8],
-    count: usize,
-    back: &[u8],
-    want: Cut,
-) -> Result<bool, AllocError> {
-    let text = filled(alloc, front, b"x", count, back)?;
-    Ok(cut(&text) == want)
-}
-
-/// Whether a text that has a piece so many times between its front and its back is a request.
-fn is_request(
-    alloc: Global,
-    front: &[u8],
-    piece: &[u8],
-    count: usize,
-    back: &[u8],
-) -> Result<bool, AllocError> {
-    let text = filled(alloc, front, piece, count, back)?;
-    Ok(view(&text).is_ok())
-}
-
 #[test]
 fn a_head_has_at_most_8192_bytes(rt: HostRuntime) {
     for &(front, count, back, want) in &LENGTHS {
-        assert!(rt; is_cut_so(rt.alloc(), front, count, back, want) == Ok(true));
+        assert!(rt; cut(&filled(&rt, front, b"x", count, back)) == want);
     }
-    assert!(rt; is_request(rt.alloc(), LONG, b"x", 8161, LINE_ENDS) == Ok(true));
+    assert!(rt; view(&filled(&rt, LONG, b"x", 8161, LINE_ENDS)).is_ok());
 }
 
 /// Whether a request has this field at a place.
@@ -143,7 +115,8 @@ fn has_field(request: &RequestView<'_>, at: usize, name: &[u8], value: &[u8]) ->
     if at >= request.fields() {
         return false;
     }
-    request.name(at) == name && request.value(at) == value && request.field(at) == (name, value)
+    let (found, held) = request.field(at);
+    found == name && held == value && request.name(at) == name && request.value(at) == value
 }
 
 /// A request of two fields.
@@ -189,6 +162,7 @@ static FIELDS: [(usize, bool); 2] = [(64, true), (65, false)];
 fn a_request_has_at_most_64_fields(rt: HostRuntime) {
     let front = b"GET / HTTP/1.1\r\n";
     for &(count, want) in &FIELDS {
-        assert!(rt; is_request(rt.alloc(), front, b"a:\r\n", count, b"\r\n") == Ok(want));
+        let head = filled(&rt, front, b"a:\r\n", count, b"\r\n");
+        assert!(rt; view(&head).is_ok() == want);
     }
 }

@@ -1,15 +1,14 @@
 //! What a site does beyond a plain one.
 
+use super::answers::{answered, sends};
 use super::files::files_of;
-use std::alloc::Global;
 use std::process::Abort;
-use std::test::Fail;
-use sws_answer::{PathRoom, answer, ask};
+use sws_answer::ask;
 use sws_link::{Folder, SureFolder};
-use sws_site::{Additions, Site, SiteFault, SiteOptions};
+use sws_site::{Additions, Site, SiteOptions};
 
-/// The options of a site that does all that a site can, and to which nothing is added.
-fn all(alloc: Global) -> SiteOptions {
+/// The options of a site that does all that a site can, with these additions.
+pub(super) fn all(added: Additions) -> SiteOptions {
     SiteOptions {
         removes_dot_segments: true,
         knows_more_types: true,
@@ -22,45 +21,45 @@ fn all(alloc: Global) -> SiteOptions {
         input: 4_194_304,
         max_files: 65_536,
         max_bytes: 1_073_741_824,
-        added: Additions::none(alloc),
+        added,
     }
 }
 
 /// The site of these files with these options. Its date is that of the examples of RFC 9110.
 pub(super) fn site_with(
-    alloc: Global,
-    files: &[(&[u8], &[u8])],
+    rt: &(impl AllocGlobal + Abort),
+    rows: &[(&[u8], &[u8])],
     options: SiteOptions,
-) -> Result<Site, SiteFault> {
-    let mut folder = SureFolder::new(alloc, files_of(alloc, files)?);
+) -> Site {
+    let mut folder = SureFolder::new(rt.alloc(), files_of(rt, rows));
     folder.open("site");
-    Site::load_with(alloc, &mut folder, Some(784111777), options)
+    Site::load_with(rt.alloc(), &mut folder, Some(784111777), options).expect(rt, "a site")
 }
 
-/// The site of these files that does all that a site can.
-fn site_with_all(alloc: Global, files: &[(&[u8], &[u8])]) -> Result<Site, SiteFault> {
-    site_with(alloc, files, all(alloc))
+/// The site of these files that does all that a site can, and to which nothing is added.
+fn site_with_all(rt: &(impl AllocGlobal + Abort), rows: &[(&[u8], &[u8])]) -> Site {
+    site_with(rt, rows, all(Additions::none(rt.alloc())))
 }
 
-/// The head of a request for a target.
-fn asking_for(rt: &(impl AllocGlobal + Abort), target: &[u8]) -> Vec<u8> {
-    let mut head = Vec::new(rt.alloc());
-    for piece in [b"GET ".as_slice(), target, b" HTTP/1.1\r\nHost: h\r\n\r\n"] {
-        head.extend_from_slice(piece).expect(rt, "memory");
-    }
-    head
+/// Whether the site answers this head with this response.
+pub(super) fn is_sent(
+    rt: &(impl AllocGlobal + Abort),
+    site: &Site,
+    head: &[u8],
+    response: &[u8],
+) -> bool {
+    sends(&mut answered(rt, site, &ask(head), false).parts, response)
 }
 
-/// Whether a request for the target is answered with this body.
-fn is_answered(rt: &(impl AllocGlobal + Abort), site: &Site, target: &[u8], body: &[u8]) -> bool {
-    let mut room = PathRoom::new(rt.alloc()).expect(rt, "memory");
-    let mut parts = answer(site, &ask(&asking_for(rt, target)), false, &mut room).parts;
+/// Whether the site answers this head with this body.
+fn has_body(rt: &(impl AllocGlobal + Abort), site: &Site, head: &[u8], body: &[u8]) -> bool {
+    let mut parts = answered(rt, site, &ask(head), false).parts;
     parts.advance(parts.front().len());
     parts.front() == body
 }
 
 /// Files that contain their names.
-const FILES: [(&[u8], &[u8]); 9] = [
+static FILES: [(&[u8], &[u8]); 9] = [
     (b"Packages", b"Packages"),
     (b"a/g", b"a/g"),
     (b"b/c/g.", b"b/c/g."),
@@ -72,30 +71,35 @@ const FILES: [(&[u8], &[u8]); 9] = [
     (b"mid/6", b"mid/6"),
 ];
 
-/// Targets with dot segments, and the files that they name: the two examples of RFC 3986, section
-/// 5.2.4, then what `apt` asks for, some of section 5.4, and others.
-const TARGETS: [(&[u8], &[u8]); 12] = [
-    (b"/a/b/c/./../../g", b"a/g"),
-    (b"/mid/content=5/../6", b"mid/6"),
-    (b"/./Packages", b"Packages"),
-    (b"/b/c/../g", b"b/g"),
-    (b"/b/c/./", b"b/c/index.html"),
-    (b"/b/c/.", b"b/c/index.html"),
-    (b"/b/c/..", b"b/index.html"),
-    (b"/b/c/../../../g", b"g"),
-    (b"/b/c/g.", b"b/c/g."),
-    (b"/b/c/..g", b"b/c/..g"),
-    (b"/b//../g?q=/../", b"b/g"),
-    (b"/%2e%2E/g", b"g"),
+/// Requests for targets with dot segments, and the files that these name: the two examples of RFC
+/// 3986, section 5.2.4, then what `apt` asks for, some of section 5.4, and others.
+static TARGETS: [(&[u8], &[u8]); 12] = [
+    (b"GET /a/b/c/./../../g HTTP/1.1\r\nHost: h\r\n\r\n", b"a/g"),
+    (
+        b"GET /mid/content=5/../6 HTTP/1.1\r\nHost: h\r\n\r\n",
+        b"mid/6",
+    ),
+    (b"GET /./Packages HTTP/1.1\r\nHost: h\r\n\r\n", b"Packages"),
+    (b"GET /b/c/../g HTTP/1.1\r\nHost: h\r\n\r\n", b"b/g"),
+    (
+        b"GET /b/c/./ HTTP/1.1\r\nHost: h\r\n\r\n",
+        b"b/c/index.html",
+    ),
+    (b"GET /b/c/. HTTP/1.1\r\nHost: h\r\n\r\n", b"b/c/index.html"),
+    (b"GET /b/c/.. HTTP/1.1\r\nHost: h\r\n\r\n", b"b/index.html"),
+    (b"GET /b/c/../../../g HTTP/1.1\r\nHost: h\r\n\r\n", b"g"),
+    (b"GET /b/c/g. HTTP/1.1\r\nHost: h\r\n\r\n", b"b/c/g."),
+    (b"GET /b/c/..g HTTP/1.1\r\nHost: h\r\n\r\n", b"b/c/..g"),
+    (b"GET /b//../g?q=/../ HTTP/1.1\r\nHost: h\r\n\r\n", b"b/g"),
+    (b"GET /%2e%2E/g HTTP/1.1\r\nHost: h\r\n\r\n", b"g"),
 ];
 
 #[test]
-fn dot_segments_are_removed(rt: HostRuntime) -> Result<(), Fail> {
-    let site = site_with_all(rt.alloc(), &FILES)?;
-    for &(target, name) in &TARGETS {
-        assert!(rt; is_answered(&rt, &site, target, name));
+fn dot_segments_are_removed(rt: HostRuntime) {
+    let site = site_with_all(&rt, &FILES);
+    for &(head, name) in &TARGETS {
+        assert!(rt; has_body(&rt, &site, head, name));
     }
-    Ok(())
 }
 
 /// Whether the first file of this name has this media type.
@@ -107,7 +111,7 @@ fn has_type(site: &Site, name: &[u8], media_type: &[u8]) -> bool {
 }
 
 /// Names with the types that are registered for their extensions.
-const TYPES: [(&[u8], &[u8]); 12] = [
+static TYPES: [(&[u8], &[u8]); 12] = [
     (b"a.html", b"text/html"),
     (b"a.mjs", b"text/javascript"),
     (b"A.WEBP", b"image/webp"),
@@ -126,41 +130,10 @@ const TYPES: [(&[u8], &[u8]); 12] = [
 ];
 
 #[test]
-fn more_types_are_known(rt: HostRuntime) -> Result<(), Fail> {
-    let site = site_with_all(rt.alloc(), &TYPES)?;
+fn more_types_are_known(rt: HostRuntime) {
+    let site = site_with_all(&rt, &TYPES);
     for &(name, media_type) in &TYPES {
         assert!(rt; has_type(&site, name, media_type));
-    }
-    Ok(())
-}
-
-/// Whether the site answers this head with this response.
-pub(super) fn is_sent(
-    rt: &(impl AllocGlobal + Abort),
-    site: &Site,
-    head: &[u8],
-    response: &[u8],
-) -> bool {
-    let mut room = PathRoom::new(rt.alloc()).expect(rt, "memory");
-    let mut parts = answer(site, &ask(head), false, &mut room).parts;
-    let mut sent = Vec::new(rt.alloc());
-    sent.extend_from_slice(parts.front()).expect(rt, "memory");
-    parts.advance(parts.front().len());
-    sent.extend_from_slice(parts.front()).expect(rt, "memory");
-    sent.as_slice() == response
-}
-
-/// Whether the site of these files with these options answers this head with this response.
-fn is_sent_with(
-    rt: &(impl AllocGlobal + Abort),
-    options: SiteOptions,
-    files: &[(&[u8], &[u8])],
-    head: &[u8],
-    response: &[u8],
-) -> bool {
-    match site_with(rt.alloc(), files, options) {
-        Ok(site) => is_sent(rt, &site, head, response),
-        Err(_) => false,
     }
 }
 
@@ -227,11 +200,12 @@ static NO_REDIRECTS: [&[u8]; 5] = [
 
 #[test]
 fn folders_are_redirected_to(rt: HostRuntime) {
+    let site = site_with_all(&rt, &FOLDERS);
     for &(head, response) in &REDIRECTS {
-        assert!(rt; is_sent_with(&rt, all(rt.alloc()), &FOLDERS, head, response));
+        assert!(rt; is_sent(&rt, &site, head, response));
     }
     for head in &NO_REDIRECTS {
-        assert!(rt; is_sent_with(&rt, all(rt.alloc()), &FOLDERS, head, NOT_FOUND));
+        assert!(rt; is_sent(&rt, &site, head, NOT_FOUND));
     }
 }
 
@@ -273,8 +247,9 @@ static LOST: [(&[u8], &[u8]); 6] = [
 
 #[test]
 fn a_page_tells_that_no_file_has_the_name(rt: HostRuntime) {
+    let site = site_with_all(&rt, &PAGES);
     for &(head, response) in &LOST {
-        assert!(rt; is_sent_with(&rt, all(rt.alloc()), &PAGES, head, response));
+        assert!(rt; is_sent(&rt, &site, head, response));
     }
 }
 
@@ -288,28 +263,22 @@ static PLAIN: [&[u8]; 2] = [
     b"GET /none HTTP/1.1\r\nHost: h\r\n\r\n",
 ];
 
+/// Whether a site answers these so.
+fn is_plain(rt: &(impl AllocGlobal + Abort), site: &Site) -> bool {
+    for head in &PLAIN {
+        if !is_sent(rt, site, head, PLAIN_NOT_FOUND) {
+            return false;
+        }
+    }
+    true
+}
+
 #[test]
 fn a_plain_site_has_neither(rt: HostRuntime) {
-    for head in &PLAIN {
-        assert!(rt;
-            is_sent_with(
-                &rt,
-                SiteOptions::plain(rt.alloc()),
-                &FOLDERS,
-                head,
-                PLAIN_NOT_FOUND
-            )
-        );
-        assert!(rt;
-            is_sent_with(
-                &rt,
-                SiteOptions::plain(rt.alloc()),
-                &PAGES,
-                head,
-                PLAIN_NOT_FOUND
-            )
-        );
-    }
+    let site = site_with(&rt, &FOLDERS, SiteOptions::plain(rt.alloc()));
+    assert!(rt; is_plain(&rt, &site));
+    let site = site_with(&rt, &PAGES, SiteOptions::plain(rt.alloc()));
+    assert!(rt; is_plain(&rt, &site));
 }
 
 /// A file of ten bytes.
@@ -356,10 +325,11 @@ static ALL_TEN: &[u8] =
 
 #[test]
 fn old_connections_and_conditions_on_a_range(rt: HostRuntime) {
+    let site = site_with_all(&rt, &TEN);
     for &(head, response) in &KEPT {
-        assert!(rt; is_sent_with(&rt, all(rt.alloc()), &TEN, head, response));
+        assert!(rt; is_sent(&rt, &site, head, response));
     }
     for head in &WHOLE {
-        assert!(rt; is_sent_with(&rt, all(rt.alloc()), &TEN, head, ALL_TEN));
+        assert!(rt; is_sent(&rt, &site, head, ALL_TEN));
     }
 }

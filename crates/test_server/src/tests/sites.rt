@@ -1,8 +1,8 @@
 //! What loading, looking up and the prebuilt heads give with ample memory.
 
-use super::files::{THREE_FILES, site_of};
+use super::files::{THREE_FILES, load, site_of};
 use std::alloc::Global;
-use sws_link::{Folder, Got, MemFolder, NextFile, Opened};
+use sws_link::{Folder, Got, NextFile, Opened};
 use sws_site::{HeadKind, Site, SiteFault, SiteOptions};
 
 const OPEN: HeadKind = HeadKind {
@@ -26,40 +26,51 @@ fn has_head(site: &Site, name: &[u8], kind: HeadKind, head: &[u8]) -> bool {
     }
 }
 
-/// Whether the file at a place has this name and these contents.
-fn has_file_at(site: &Site, place: usize, name: &[u8], contents: &[u8]) -> bool {
-    place < site.files() && site.name_at(place) == name && site.page_at(place).body() == contents
+/// Whether the file at a place has this name.
+fn has_name_at(site: &Site, place: usize, name: &[u8]) -> bool {
+    place < site.files() && site.name_at(place) == name
+}
+
+/// Whether the file at a place has these contents.
+fn has_page_at(site: &Site, place: usize, contents: &[u8]) -> bool {
+    place < site.files() && site.page_at(place).body() == contents
 }
 
 const TEXT_HEAD: &[u8] =
     b"HTTP/1.1 200 OK\r\nServer: sws\r\nContent-Type: text/plain\r\nContent-Length: 10\r\n\r\n";
 
-/// Whether the site of the three files has no date, no other file, and a text with its head.
-fn has_three_files(alloc: Global) -> Result<bool, SiteFault> {
-    let site = site_of(alloc, &THREE_FILES, None)?;
-    let are_three = site.files() == 3 && site.date() == None && site.lookup(b"a").is_none();
-    let has_file = has_file(&site, b"a/b.txt", b"0123456789");
-    Ok(are_three && has_file && has_head(&site, b"a/b.txt", OPEN, TEXT_HEAD))
+/// Whether a site has three files, no date, no other file, and a text with its head.
+fn has_three_files(site: &Site) -> bool {
+    site.files() == 3
+        && site.date() == None
+        && site.lookup(b"a").is_none()
+        && has_file(site, b"a/b.txt", b"0123456789")
+        && has_head(site, b"a/b.txt", OPEN, TEXT_HEAD)
 }
 
 #[test]
 fn three_files_are_loaded_and_found(rt: HostRuntime) {
-    assert!(rt; has_three_files(rt.alloc()) == Ok(true));
+    let site = site_of(&rt, &THREE_FILES, None);
+    assert!(rt; has_three_files(&site));
 }
 
 /// Two files of a name, and another between them.
 static TWO_OF_A_NAME: [(&[u8], &[u8]); 3] = [(b"a", b"first"), (b"b", b"other"), (b"a", b"second")];
 
-/// Whether the first of two files of a name is found, and each has its place.
-fn finds_the_first(alloc: Global) -> Result<bool, SiteFault> {
-    let site = site_of(alloc, &TWO_OF_A_NAME, None)?;
-    let are_there = has_file_at(&site, 1, b"b", b"other") && has_file_at(&site, 2, b"a", b"second");
-    Ok(site.files() == 3 && are_there && has_file(&site, b"a", b"first"))
+/// Whether a site has the three files, each at its place, and finds the first of a name.
+fn finds_the_first(site: &Site) -> bool {
+    site.files() == 3
+        && has_name_at(site, 1, b"b")
+        && has_page_at(site, 1, b"other")
+        && has_name_at(site, 2, b"a")
+        && has_page_at(site, 2, b"second")
+        && has_file(site, b"a", b"first")
 }
 
 #[test]
 fn the_first_of_two_files_of_a_name_is_found(rt: HostRuntime) {
-    assert!(rt; finds_the_first(rt.alloc()) == Ok(true));
+    let site = site_of(&rt, &TWO_OF_A_NAME, None);
+    assert!(rt; finds_the_first(&site));
 }
 
 /// The head and the body that refuse a method.
@@ -86,24 +97,26 @@ fn is_fixed_length(site: &Site, code: u16, closes: bool, len: usize) -> bool {
     head.len().saturating_add(body.len()) == len
 }
 
-/// Whether a site without files has this response that refuses a method, and one of so many bytes.
-fn refuses_so(
-    alloc: Global,
-    refusal: &(&[u8], &[u8]),
-    code: u16,
-    closes: bool,
-    len: usize,
-) -> Result<bool, SiteFault> {
-    let site = site_of(alloc, &[], Some(784111777))?;
-    let is_fixed = is_fixed_length(&site, code, closes, len);
-    Ok(is_fixed && site.date() == Some(784111777) && site.fixed(405, true) == *refusal)
+/// Whether a method is refused with this head and this body.
+fn refuses_methods_so(site: &Site, head: &[u8], body: &[u8]) -> bool {
+    let (front, rest) = site.fixed(405, true);
+    front == head && rest == body
+}
+
+/// Whether each response that refuses has as many bytes as it should, and a method is refused so.
+fn refuses_so(site: &Site) -> bool {
+    for &(code, closes, len) in &LENGTHS {
+        if !is_fixed_length(site, code, closes, len) {
+            return false;
+        }
+    }
+    site.date() == Some(784111777) && refuses_methods_so(site, NOT_ALLOWED.0, NOT_ALLOWED.1)
 }
 
 #[test]
 fn responses_that_refuse_are_the_same_for_each_site(rt: HostRuntime) {
-    for &(code, closes, len) in &LENGTHS {
-        assert!(rt; refuses_so(rt.alloc(), &NOT_ALLOWED, code, closes, len) == Ok(true));
-    }
+    let site = site_of(&rt, &[], Some(784111777));
+    assert!(rt; refuses_so(&site));
 }
 
 /// A folder that gives files of the same length without holding them. Their names have one
@@ -166,74 +179,82 @@ impl Vast {
     }
 }
 
-/// How many files are loaded of such a folder.
+/// How many files are loaded of such a folder by a plain site, or by one that holds so many files and
+/// bytes.
 fn loaded(
     alloc: Global,
-    files: u32,
-    last_name: usize,
-    contents: usize,
+    limits: Option<(u32, u64)>,
+    folder: &mut Vast,
 ) -> Result<usize, SiteFault> {
-    let mut folder = Vast::new(files, last_name, contents);
-    let site = Site::load(alloc, &mut folder, None)?;
-    Ok(site.files())
-}
-
-/// How many of so many files of ten bytes are loaded by a site that holds so many files and bytes.
-fn loaded_by(
-    alloc: Global,
-    max_files: u32,
-    max_bytes: u64,
-    files: u32,
-) -> Result<usize, SiteFault> {
-    let mut options = SiteOptions::plain(alloc);
-    options.max_files = max_files;
-    options.max_bytes = max_bytes;
-    let mut folder = Vast::new(files, 1, 10);
-    let site = Site::load_with(alloc, &mut folder, None, options)?;
-    Ok(site.files())
-}
-
-/// How many files and bytes a site holds, how many files of ten bytes there are, and what comes of
-/// loading them.
-static OWN: [(u32, u64, u32, Result<usize, SiteFault>); 6] = [
-    (3, 1000, 3, Ok(3)),
-    (3, 1000, 4, Err(SiteFault::TooManyFiles { count: 4 })),
-    (1000, 30, 3, Ok(3)),
-    (1000, 29, 3, Err(SiteFault::TooManyBytes { number: 3 })),
-    (0, 0, 1, Err(SiteFault::TooManyFiles { count: 1 })),
-    (5000, 50_000, 5000, Ok(5000)),
-];
-
-#[test]
-fn a_site_holds_as_much_as_its_options_say(rt: HostRuntime) {
-    for (row, &(max_files, max_bytes, files, ends)) in OWN.iter().enumerate() {
-        assert!(rt;
-            loaded_by(rt.alloc(), max_files, max_bytes, files) == ends,
-            "row {row}"
-        );
+    match load_within(alloc, limits, folder) {
+        Ok(site) => Ok(site.files()),
+        Err(fault) => Err(fault),
     }
 }
 
-#[test]
-fn a_site_holds_as_much_as_its_limits_say(rt: HostRuntime) {
-    let alloc = rt.alloc();
-    assert!(rt; loaded(alloc, 4096, 1024, 0) == Ok(4096));
-    assert!(rt; loaded(alloc, 3, 1024, 100000) == Ok(3));
+/// The site of such a folder.
+fn load_within(
+    alloc: Global,
+    limits: Option<(u32, u64)>,
+    folder: &mut Vast,
+) -> Result<Site, SiteFault> {
+    let Some((max_files, max_bytes)) = limits else {
+        return load(alloc, folder, None);
+    };
+    let mut options = SiteOptions::plain(alloc);
+    options.max_files = max_files;
+    options.max_bytes = max_bytes;
+    Site::load_with(alloc, folder, None, options)
 }
 
-/// Folders that a limit refuses: how many files, how long the last one's name is, and the fault.
-static BEYOND: [(u32, usize, SiteFault); 3] = [
-    (4097, 1, SiteFault::TooManyFiles { count: 4097 }),
-    (4097, 1025, SiteFault::TooManyFiles { count: 4097 }),
-    (2, 1025, SiteFault::LongName { number: 2 }),
+/// How many files and bytes a site holds, or nothing for a plain one; how many files there are, how
+/// long the name of the last one is, and how many bytes each has; and what comes of loading them.
+static LIMITS: [(
+    Option<(u32, u64)>,
+    (u32, usize, usize),
+    Result<usize, SiteFault>,
+); 11] = [
+    (Some((3, 1000)), (3, 1, 10), Ok(3)),
+    (
+        Some((3, 1000)),
+        (4, 1, 10),
+        Err(SiteFault::TooManyFiles { count: 4 }),
+    ),
+    (Some((1000, 30)), (3, 1, 10), Ok(3)),
+    (
+        Some((1000, 29)),
+        (3, 1, 10),
+        Err(SiteFault::TooManyBytes { number: 3 }),
+    ),
+    (
+        Some((0, 0)),
+        (1, 1, 10),
+        Err(SiteFault::TooManyFiles { count: 1 }),
+    ),
+    (Some((5000, 50_000)), (5000, 1, 10), Ok(5000)),
+    (None, (4096, 1024, 0), Ok(4096)),
+    (None, (3, 1024, 100_000), Ok(3)),
+    // The first file that meets a limit is named.
+    (
+        None,
+        (4097, 1, 0),
+        Err(SiteFault::TooManyFiles { count: 4097 }),
+    ),
+    (
+        None,
+        (4097, 1025, 0),
+        Err(SiteFault::TooManyFiles { count: 4097 }),
+    ),
+    (None, (2, 1025, 0), Err(SiteFault::LongName { number: 2 })),
 ];
 
 #[test]
-fn the_first_file_that_meets_a_limit_is_named(rt: HostRuntime) {
-    for &(files, last_name, fault) in &BEYOND {
+fn a_site_holds_as_much_as_its_limits_say(rt: HostRuntime) {
+    for (row, &(limits, (files, last_name, contents), ends)) in LIMITS.iter().enumerate() {
+        let mut folder = Vast::new(files, last_name, contents);
         assert!(rt;
-            loaded(rt.alloc(), files, last_name, 0) == Err(fault),
-            "{fault}"
+            loaded(rt.alloc(), limits, &mut folder) == ends,
+            "row {row}"
         );
     }
 }

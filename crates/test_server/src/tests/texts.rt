@@ -1,5 +1,4 @@
-use std::alloc::{AllocError, Global};
-use std::test::*;
+use std::alloc::Global;
 use sws_text::{ShownLines, push_text, read_text};
 
 /// Bytes, and the text that is written for them.
@@ -36,44 +35,43 @@ static REFUSED: [&[u8]; 8] = [
 ];
 
 /// Whether a text stands for these bytes.
-fn is_read_as(alloc: Global, text: &[u8], bytes: &[u8]) -> Result<bool, AllocError> {
-    match read_text(alloc, text)? {
-        Some(read) => Ok(read.as_slice() == bytes),
-        None => Ok(false),
+fn is_read_as(alloc: Global, text: &[u8], bytes: &[u8]) -> bool {
+    match read_text(alloc, text) {
+        Ok(Some(read)) => read.as_slice() == bytes,
+        _ => false,
     }
 }
 
 /// Whether bytes are written as this text.
-fn is_written_as(alloc: Global, bytes: &[u8], text: &[u8]) -> Result<bool, AllocError> {
+fn is_written_as(alloc: Global, bytes: &[u8], text: &[u8]) -> bool {
     let mut written = Vec::new(alloc);
-    push_text(&mut written, bytes)?;
-    Ok(written.as_slice() == text)
+    push_text(&mut written, bytes).is_ok() && written.as_slice() == text
 }
 
 /// Whether a text is none.
-fn is_refused(alloc: Global, text: &[u8]) -> Result<bool, AllocError> {
-    Ok(read_text(alloc, text)?.is_none())
+fn is_refused(alloc: Global, text: &[u8]) -> bool {
+    matches!(read_text(alloc, text), Ok(None))
 }
 
 #[test]
 fn what_is_written_is_read(rt: HostRuntime) {
     for &(bytes, text) in &WRITTEN {
-        assert!(rt; is_written_as(rt.alloc(), bytes, text) == Ok(true));
-        assert!(rt; is_read_as(rt.alloc(), text, bytes) == Ok(true));
+        assert!(rt; is_written_as(rt.alloc(), bytes, text));
+        assert!(rt; is_read_as(rt.alloc(), text, bytes));
     }
 }
 
 #[test]
 fn other_spellings_are_read(rt: HostRuntime) {
     for &(text, bytes) in &READ {
-        assert!(rt; is_read_as(rt.alloc(), text, bytes) == Ok(true));
+        assert!(rt; is_read_as(rt.alloc(), text, bytes));
     }
 }
 
 #[test]
 fn what_is_no_text_is_refused(rt: HostRuntime) {
     for &text in &REFUSED {
-        assert!(rt; is_refused(rt.alloc(), text) == Ok(true));
+        assert!(rt; is_refused(rt.alloc(), text));
     }
 }
 
@@ -83,16 +81,18 @@ const RESPONSE: &[u8] = b"HTTP/1.1 200 OK\r\n\r\nhi\nlast";
 const SHOWN: &[u8] = b"| HTTP/1.1 200 OK~\n| ~\n| hi\\n\n| last\n";
 
 /// Whether a hundred calls show bytes by these lines.
-fn is_shown_as(alloc: Global, bytes: &[u8], lines: &[u8]) -> Result<bool, AllocError> {
+fn is_shown_as(alloc: Global, bytes: &[u8], lines: &[u8]) -> bool {
     let mut text = Vec::new(alloc);
     let mut shown = ShownLines::new(bytes);
     for _ in 0..100 {
-        shown.push_next(&mut text)?;
+        if shown.push_next(&mut text).is_err() {
+            return false;
+        }
     }
-    Ok(text.as_slice() == lines)
+    text.as_slice() == lines
 }
 
 #[test]
 fn lines_are_shown_a_few_bytes_at_a_time(rt: HostRuntime) {
-    assert!(rt; is_shown_as(rt.alloc(), RESPONSE, SHOWN) == Ok(true));
+    assert!(rt; is_shown_as(rt.alloc(), RESPONSE, SHOWN));
 }

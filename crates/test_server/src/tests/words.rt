@@ -1,30 +1,34 @@
 //! What words order. Which words are a command line, `run_cases` shows.
-use std::alloc::{AllocError, Global};
+use mely_history::Shape;
+use std::process::Abort;
 use sws_words::{Order, WordFault, read_words};
 
 /// The words of a line, which stand one space apart.
-fn words_of(alloc: Global, line: &str) -> Result<Vec<String>, AllocError> {
-    let mut words = Vec::new(alloc);
-    if line.is_empty() {
-        return Ok(words);
-    }
+fn words_of(rt: &(impl AllocGlobal + Abort), line: &str) -> Vec<String> {
+    let mut words = Vec::new(rt.alloc());
     for word in line.split(' ') {
-        words.push(String::from_str(alloc, word)?)?;
+        let word = String::from_str(rt.alloc(), word).expect(rt, "memory");
+        words.push(word).expect(rt, "memory");
     }
-    Ok(words)
+    words
 }
 
 /// What a line orders.
-fn ordered(alloc: Global, line: &str) -> Result<Order, WordFault> {
-    let words = words_of(alloc, line).ok().ok_or(WordFault::Memory)?;
-    read_words(alloc, words.as_slice())
+fn ordered(rt: &(impl AllocGlobal + Abort), line: &str) -> Result<Order, WordFault> {
+    read_words(rt.alloc(), &words_of(rt, line))
 }
 
-/// Whether a line orders a replay of these values, with the shape's defaults but for two.
-fn is_replay(alloc: Global, line: &str) -> bool {
-    let Ok(order) = ordered(alloc, line) else {
-        return false;
-    };
+/// Whether a shape is the usual one, but for two workers and this cost.
+fn is_of_two(shape: &Shape, cost: u32) -> bool {
+    shape.cores == 2
+        && shape.shards == 1
+        && shape.batch == 10
+        && shape.group == 4
+        && shape.steal_cost == cost
+}
+
+/// Whether a replay of these values is ordered, with the shape's defaults but for two.
+fn is_replay(order: &Order) -> bool {
     match order {
         Order::Replay {
             folder,
@@ -35,20 +39,18 @@ fn is_replay(alloc: Global, line: &str) -> bool {
             log,
         } => {
             folder.as_str() == "S"
-                && date == Some(7)
-                && (journal, schedule, log) == (true, false, true)
-                && (shape.cores, shape.shards, shape.batch) == (2, 1, 10)
-                && (shape.group, shape.steal_cost) == (4, 5)
+                && *date == Some(7)
+                && *journal
+                && !*schedule
+                && *log
+                && is_of_two(shape, 5)
         }
         _ => false,
     }
 }
 
-/// Whether a line orders Gopher, with these values.
-fn is_gopher(alloc: Global, line: &str) -> bool {
-    let Ok(order) = ordered(alloc, line) else {
-        return false;
-    };
+/// Whether Gopher is ordered, with these values.
+fn is_gopher(order: &Order) -> bool {
     match order {
         Order::Gopher {
             folder,
@@ -60,17 +62,34 @@ fn is_gopher(alloc: Global, line: &str) -> bool {
         } => {
             folder.as_str() == "S"
                 && host.as_str() == "h.x"
-                && (port, connections) == (70, None)
-                && (journal, shape.cores) == (true, 2)
+                && *port == 70
+                && *connections == None
+                && *journal
+                && shape.cores == 2
         }
         _ => false,
+    }
+}
+
+/// Whether the order is one, of which this holds.
+fn is_replay_of(rt: &(impl AllocGlobal + Abort), line: &str) -> bool {
+    match &ordered(rt, line) {
+        Ok(order) => is_replay(order),
+        Err(_) => false,
+    }
+}
+
+fn is_gopher_of(rt: &(impl AllocGlobal + Abort), line: &str) -> bool {
+    match &ordered(rt, line) {
+        Ok(order) => is_gopher(order),
+        Err(_) => false,
     }
 }
 
 #[test]
 fn defaults_and_values_come_where_they_belong(rt: HostRuntime) {
     let line = "replay --cost=5 --journal S --workers +2 --date 007 --log";
-    assert!(rt; is_replay(rt.alloc(), line));
+    assert!(rt; is_replay_of(&rt, line));
     let line = "gopher --journal S --port 70 --host h.x --workers 2";
-    assert!(rt; is_gopher(rt.alloc(), line));
+    assert!(rt; is_gopher_of(&rt, line));
 }

@@ -1,210 +1,170 @@
 //! Clients on this machine at a server whose generations have two connections each.
 
-use std::io::{self, Read, Write};
+use super::clients::{ask_all, listen};
+use super::orders::{Plan, make_folder, order_of};
+use std::io::{self, Read};
 use std::net::{SocketAddr, TcpListener, TcpStream};
+use std::process::Abort;
 use std::sync::Wait;
 use std::thread::Threads;
 use std::time::Clock;
 use std::{fs, thread};
 use sws_daemon::{Served, serve_at};
+use sws_lane::Totals;
 use sws_outbox::Outbox;
-use sws_site::Additions;
-use swsd_words::{LogFault, Order};
 
 /// How many clients ask.
 const CLIENTS: u64 = 40;
 
-const REQUEST: &[u8] = b"GET / HTTP/1.1\r\nHost: x\r\nConnection: close\r\n\r\n";
+/// How clients ask.
+#[derive(Clone, Copy)]
+enum Asking {
+    /// Forty, one after another, beside one that says nothing from before the others come until they
+    /// have gone.
+    BesideASilentOne,
 
-/// The response but for the date of the site, which is between the two.
-const HEAD: &[u8] = b"HTTP/1.1 200 OK\r\nServer: sws\r\nConnection: close\r\nLast-Modified: ";
-
-const REST: &[u8] = b" GMT\r\nContent-Type: text/html\r\nContent-Length: 3\r\n\r\nhi\n";
-
-/// How many bytes both have, and the date between them.
-const LENGTH: usize = 144;
-
-/// Whether this is the response, with a date.
-fn is_response(back: &[u8]) -> bool {
-    back.starts_with(HEAD) && back.ends_with(REST) && back.len() == LENGTH
+    /// One is silent and another is answered, so that their generation is full; the silent one waits
+    /// until the server ends its connection. Then a third one is answered.
+    AfterASilentOne,
 }
 
-/// Asks for the index, and reads what comes back to the end. A client that is refused has an error.
-fn ask(rt: &HostRuntime, address: SocketAddr) -> io::Result<Vec<u8>> {
-    let stream = TcpStream::connect(rt, address)?;
-    (&stream).write_all(REQUEST)?;
-    let mut back = Vec::new(rt.alloc());
-    (&stream).read_to_end(&mut back)?;
-    Ok(back)
-}
-
-/// How many of so many clients, one after another, were answered as they should be.
-fn ask_all(rt: &HostRuntime, address: SocketAddr, clients: u64) -> u64 {
-    let mut answered = 0u64;
-    for _ in 0..clients {
-        if let Ok(back) = ask(rt, address) {
-            if is_response(back.as_slice()) {
-                answered = answered.saturating_add(1);
-            }
-        }
-    }
-    answered
-}
-
-/// How many clients were answered beside one that says nothing from before the others come until
-/// they have gone. Then the stop file is made.
-fn ask_beside_a_silent_one(rt: &HostRuntime, address: SocketAddr, stop: &str) -> u64 {
+/// How many clients are answered beside a silent one.
+fn ask_beside_a_silent_one(rt: &HostRuntime, address: SocketAddr) -> u64 {
     let silent = TcpStream::connect(rt, address);
     let answered = ask_all(rt, address, CLIENTS);
-    let _ = fs::write(rt, stop, b"");
     drop(silent);
     answered
 }
 
-/// One client is silent and another is answered, so that their generation is full; the silent one
-/// waits until the server ends its connection. Then a third one is answered, and the stop file is
-/// made. How many were answered, and how many bytes the silent one got, where its connection ended.
-fn ask_after_a_silent_one(
-    rt: &HostRuntime,
-    address: SocketAddr,
-    stop: &str,
-) -> io::Result<(u64, usize)> {
-    let silent = TcpStream::connect(rt, address)?;
-    let before = ask_all(rt, address, 1);
+/// Whether nothing came to a client until its connection ended.
+fn is_cut(rt: &HostRuntime, mut silent: &TcpStream) -> bool {
     let mut back = Vec::new(rt.alloc());
-    let count = match (&silent).read_to_end(&mut back) {
-        Ok(count) => count,
-        Err(_) => 0,
+    matches!(silent.read_to_end(&mut back), Ok(0) | Err(_))
+}
+
+/// Whether one client is answered beside a silent one, and one once that was cut.
+fn are_answered_after_a_silent_one(rt: &HostRuntime, address: SocketAddr) -> bool {
+    let Ok(silent) = TcpStream::connect(rt, address) else {
+        return false;
     };
-    let after = ask_all(rt, address, 1);
-    fs::write(rt, stop, b"")?;
-    Ok((before.saturating_add(after), count))
+    let before = ask_all(rt, address, 1);
+    let is_cut = is_cut(rt, &silent);
+    before == 1 && is_cut && ask_all(rt, address, 1) == 1
 }
 
-/// A folder of an index alone, and the order that serves it; there is no stop file yet.
-fn order_of(
-    rt: &HostRuntime,
-    folder: &str,
-    stop: &str,
-    lanes: u16,
-    grace: u64,
-) -> io::Result<Order> {
-    let alloc = rt.alloc();
-    fs::create_dir_all(rt, folder)?;
-    let index = format!(in alloc; "{folder}/index.html")?;
-    fs::write(rt, index.as_str(), b"hi\n")?;
-    let _ = fs::remove_file(rt, stop);
-    Ok(Order {
-        folder: String::from_str(alloc, folder)?,
-        listen: SocketAddr::from(([127, 0, 0, 1], 0)),
-        listen_too: Vec::new(alloc),
-        workers: 1,
-        lanes,
-        accepting: lanes.min(2),
-        connections: 2,
-        per_address: None,
-        fronts: Vec::new(alloc),
-        answers: 1000,
-        input: 4_194_304,
-        max_files: 65_536,
-        max_bytes: 1_073_741_824,
-        age: 600,
-        grace,
-        look: 1,
-        stop_file: Some(String::from_str(alloc, stop)?),
-        reload_file: None,
-        log: None,
-        log_fault: LogFault::Go,
-        quiet: true,
-        hidden: false,
-        added: Additions::none(alloc),
-    })
-}
-
-/// How clients ask.
-#[derive(Clone, Copy)]
-enum Asking {
-    BesideASilentOne,
-    AfterASilentOne,
-}
-
-/// How many clients were answered that ask so, and how many bytes the silent one got.
-fn ask_so(
-    rt: &HostRuntime,
-    address: SocketAddr,
-    stop: &str,
-    asking: Asking,
-) -> io::Result<(u64, usize)> {
+/// Whether all clients that ask so are answered.
+fn are_answered(rt: &HostRuntime, address: SocketAddr, asking: Asking) -> bool {
     match asking {
-        Asking::BesideASilentOne => Ok((ask_beside_a_silent_one(rt, address, stop), 0)),
-        Asking::AfterASilentOne => ask_after_a_silent_one(rt, address, stop),
+        Asking::BesideASilentOne => ask_beside_a_silent_one(rt, address) == CLIENTS,
+        Asking::AfterASilentOne => are_answered_after_a_silent_one(rt, address),
     }
 }
 
-/// Serves clients that ask so by an order: what has come of it, and how many were answered, and how
-/// many bytes the silent one got.
-fn serve<T: AllocGlobal + Threads + Wait + Sync + Clock>(
-    rt: &HostRuntime,
-    threads: &T,
-    order: Order,
-    stop: &str,
-    asking: Asking,
-) -> io::Result<(Option<Served>, (u64, usize))> {
-    let listener = TcpListener::bind(rt, order.listen)?;
-    let address = listener.local_addr()?;
-    let listeners = [listener];
-    let outbox = Outbox::new(rt.alloc());
-    let (served, asked) = thread::join(
-        threads,
-        || serve_at(rt, threads, order, &listeners, &outbox),
-        || ask_so(rt, address, stop, asking),
-    );
-    Ok((served.ok(), asked?))
+/// The same, and then the stop file is made.
+fn ask_and_stop(rt: &HostRuntime, address: SocketAddr, stop: &str, asking: Asking) -> bool {
+    let are_answered = are_answered(rt, address, asking);
+    fs::write(rt, stop, b"").is_ok() && are_answered
 }
 
 /// Whether a server of forty clients and a silent one has these numbers.
 fn has_served_forty(served: &Served) -> bool {
     let totals = &served.totals;
     served.fault == None
-        && (totals.connections, totals.done) == (CLIENTS + 1, CLIENTS + 1)
+        && totals.connections == CLIENTS + 1
+        && totals.done == CLIENTS + 1
         && totals.generations > CLIENTS / 2
         && totals.read == 46 * CLIENTS
 }
 
-/// Whether forty clients are answered beside a silent one.
-fn are_forty_answered<T: AllocGlobal + Threads + Wait + Sync + Clock>(
+/// Whether a server that has cut one of three connections has these numbers.
+fn has_cut_one(totals: &Totals) -> bool {
+    totals.connections == 3 && totals.done == 2 && totals.fault == 1
+}
+
+/// Whether the server of the plan ends with the numbers that clients leave who ask so.
+fn is_served<T: AllocGlobal + Abort + Threads + Wait + Sync + Clock>(
     rt: &HostRuntime,
     threads: &T,
-) -> io::Result<bool> {
-    let order = order_of(rt, "swsd_rows_site", "swsd_rows_stop", 3, 20)?;
-    let asking = Asking::BesideASilentOne;
-    let (served, asked) = serve(rt, threads, order, "swsd_rows_stop", asking)?;
-    Ok(asked == (CLIENTS, 0) && served.is_some_and(|served| has_served_forty(&served)))
+    listeners: &[TcpListener],
+    plan: &Plan,
+    asking: Asking,
+) -> bool {
+    let outbox = Outbox::new(rt.alloc());
+    match serve_at(rt, threads, order_of(threads, plan), listeners, &outbox) {
+        Ok(served) => match asking {
+            Asking::BesideASilentOne => has_served_forty(&served),
+            Asking::AfterASilentOne => has_cut_one(&served.totals),
+        },
+        Err(_) => false,
+    }
 }
+
+/// Whether clients that ask so are served at this address by the plan.
+fn are_served_at<T: AllocGlobal + Abort + Threads + Wait + Sync + Clock>(
+    rt: &HostRuntime,
+    threads: &T,
+    listener: TcpListener,
+    address: SocketAddr,
+    plan: &Plan,
+    asking: Asking,
+) -> bool {
+    let listeners = [listener];
+    let (is_served, are_answered) = thread::join(
+        threads,
+        || is_served(rt, threads, &listeners, plan, asking),
+        || ask_and_stop(rt, address, plan.stop, asking),
+    );
+    is_served && are_answered
+}
+
+/// Whether clients that ask so are served by the plan.
+fn are_served<T: AllocGlobal + Abort + Threads + Wait + Sync + Clock>(
+    rt: &HostRuntime,
+    threads: &T,
+    plan: &Plan,
+    asking: Asking,
+) -> io::Result<bool> {
+    make_folder(rt, plan)?;
+    let (listener, address) = listen(rt)?;
+    Ok(are_served_at(rt, threads, listener, address, plan, asking))
+}
+
+static FORTY: Plan = Plan {
+    folder: "swsd_rows_site",
+    stop: "swsd_rows_stop",
+    reload: None,
+    workers: 1,
+    lanes: 3,
+    accepting: 2,
+    connections: 2,
+    grace: 20,
+    look: 1,
+    log: None,
+    quiet: true,
+};
 
 #[test]
 fn forty_clients_are_answered_over_generations_of_two(rt: HostRuntime) {
-    assert!(rt; matches!(are_forty_answered(&rt, &rt), Ok(true)));
+    let are_served = are_served(&rt, &rt, &FORTY, Asking::BesideASilentOne);
+    assert!(rt; matches!(are_served, Ok(true)));
 }
 
-/// Whether a server that has cut one of three connections has these numbers.
-fn has_cut_one(served: &Served) -> bool {
-    let totals = &served.totals;
-    (totals.connections, totals.done, totals.fault) == (3, 2, 1)
-}
-
-/// Whether a silent client is cut, and two are answered.
-fn is_silent_cut<T: AllocGlobal + Threads + Wait + Sync + Clock>(
-    rt: &HostRuntime,
-    threads: &T,
-) -> io::Result<bool> {
-    let order = order_of(rt, "swsd_rows_cut", "swsd_rows_cut_stop", 1, 2)?;
-    let asking = Asking::AfterASilentOne;
-    let (served, asked) = serve(rt, threads, order, "swsd_rows_cut_stop", asking)?;
-    Ok(asked == (2, 0) && served.is_some_and(|served| has_cut_one(&served)))
-}
+static CUT: Plan = Plan {
+    folder: "swsd_rows_cut",
+    stop: "swsd_rows_cut_stop",
+    reload: None,
+    workers: 1,
+    lanes: 1,
+    accepting: 1,
+    connections: 2,
+    grace: 2,
+    look: 1,
+    log: None,
+    quiet: true,
+};
 
 #[test]
 fn a_silent_client_is_cut_once_its_generation_has_left(rt: HostRuntime) {
-    assert!(rt; matches!(is_silent_cut(&rt, &rt), Ok(true)));
+    let are_served = are_served(&rt, &rt, &CUT, Asking::AfterASilentOne);
+    assert!(rt; matches!(are_served, Ok(true)));
 }

@@ -1,88 +1,73 @@
 //! What the server says, as it is left for its outputs.
 
-use std::alloc::{AllocError, Global};
-use std::io::{self, Read, Write};
-use std::net::{SocketAddr, TcpListener, TcpStream};
+use super::clients::{ask_all, listen};
+use super::orders::{Plan, make_folder, order_of};
+use std::alloc::Global;
+use std::net::{SocketAddr, TcpListener};
+use std::process::Abort;
 use std::sync::Wait;
 use std::thread::Threads;
 use std::time::Clock;
-use std::{fs, thread};
+use std::{fs, io, thread};
 use sws_daemon::{cause_of, serve_at};
 use sws_engine::Verdict;
 use sws_lane::{Told, Totals};
 use sws_link::Opened;
 use sws_outbox::{Outbox, Queue};
-use sws_site::Additions;
-use swsd_words::{LogFault, LogFormat, Order};
+use swsd_words::LogFormat;
 
 /// How many clients ask.
 const CLIENTS: u64 = 6;
 
-/// Asks for the index, so many times, and makes the stop file then. How many were answered.
-fn ask_all(rt: &HostRuntime, address: SocketAddr, stop: &str) -> u64 {
-    let mut answered = 0u64;
-    for _ in 0..CLIENTS {
-        let Ok(stream) = TcpStream::connect(rt, address) else {
-            continue;
-        };
-        let mut back = Vec::new(rt.alloc());
-        let request = b"GET / HTTP/1.1\r\nHost: x\r\nConnection: close\r\n\r\n";
-        if (&stream).write_all(request).is_ok() && (&stream).read_to_end(&mut back).is_ok() {
-            answered = answered.saturating_add(back.as_slice().ends_with(b"hi\n") as u64);
-        }
-    }
-    let _ = fs::write(rt, stop, b"");
-    answered
+/// A server that keeps a log.
+static LOGGED: Plan = Plan {
+    folder: "swsd_lines_site",
+    stop: "swsd_lines_stop",
+    reload: None,
+    workers: 2,
+    lanes: 1,
+    accepting: 1,
+    connections: 16,
+    grace: 5,
+    look: 1,
+    log: Some(LogFormat::Combined),
+    quiet: false,
+};
+
+/// Whether all clients are answered, one after another; then the stop file is made.
+fn ask_and_stop(rt: &HostRuntime, address: SocketAddr) -> bool {
+    let answered = ask_all(rt, address, CLIENTS);
+    fs::write(rt, LOGGED.stop, b"").is_ok() && answered == CLIENTS
 }
 
-/// The order that serves an index alone, with the log.
-fn order_of(rt: &HostRuntime) -> io::Result<Order> {
-    fs::create_dir_all(rt, "swsd_lines_site")?;
-    fs::write(rt, "swsd_lines_site/index.html", b"hi\n")?;
-    let _ = fs::remove_file(rt, "swsd_lines_stop");
-    Ok(Order {
-        folder: String::from_str(rt.alloc(), "swsd_lines_site")?,
-        listen: SocketAddr::from(([127, 0, 0, 1], 0)),
-        listen_too: Vec::new(rt.alloc()),
-        workers: 2,
-        lanes: 1,
-        accepting: 1,
-        connections: 16,
-        per_address: None,
-        fronts: Vec::new(rt.alloc()),
-        answers: 1000,
-        input: 4_194_304,
-        max_files: 65_536,
-        max_bytes: 1_073_741_824,
-        age: 600,
-        grace: 5,
-        look: 1,
-        stop_file: Some(String::from_str(rt.alloc(), "swsd_lines_stop")?),
-        reload_file: None,
-        log: Some(LogFormat::Combined),
-        log_fault: LogFault::Go,
-        quiet: false,
-        hidden: false,
-        added: Additions::none(rt.alloc()),
-    })
-}
-
-/// Serves by an order: whether the server ended without a fault, and how many clients were answered.
-fn serve<T: AllocGlobal + Threads + Wait + Sync + Clock>(
+/// Whether the server ends without a fault.
+fn is_served<T: AllocGlobal + Abort + Threads + Wait + Sync + Clock>(
     rt: &HostRuntime,
     threads: &T,
-    order: Order,
+    listeners: &[TcpListener],
     outbox: &Outbox,
-) -> io::Result<(bool, u64)> {
-    let listener = TcpListener::bind(rt, order.listen)?;
-    let address = listener.local_addr()?;
+) -> bool {
+    match serve_at(rt, threads, order_of(threads, &LOGGED), listeners, outbox) {
+        Ok(served) => served.fault == None,
+        Err(_) => false,
+    }
+}
+
+/// Whether clients are answered at this address, and the server ends without a fault.
+fn are_served_at<T: AllocGlobal + Abort + Threads + Wait + Sync + Clock>(
+    rt: &HostRuntime,
+    threads: &T,
+    listener: TcpListener,
+    address: SocketAddr,
+    outbox: &Outbox,
+) -> bool {
     let listeners = [listener];
-    let (served, answered) = thread::join(
+    let (is_served, are_answered) = thread::join(
         threads,
-        || serve_at(rt, threads, order, &listeners, outbox),
-        || ask_all(rt, address, "swsd_lines_stop"),
+        || is_served(rt, threads, &listeners, outbox),
+        || ask_and_stop(rt, address),
     );
-    Ok((served.is_ok_and(|served| served.fault == None), answered))
+    is_served && are_answered
 }
 
 /// Whether an output has as many lines, each of which is that of an answer.
@@ -105,26 +90,38 @@ fn are_messages(messages: &str) -> bool {
         && messages.contains("generation 1 lane 0 connections 6 done 6")
 }
 
-/// Whether that is what was left for the outputs.
-fn is_left<T: Wait>(threads: &T, outbox: &Outbox) -> bool {
-    let (output, messages) = outbox.take(threads);
-    match (String::from_utf8(output), String::from_utf8(messages)) {
-        (Ok(output), Ok(messages)) => {
-            are_lines(output.as_str(), CLIENTS) && are_messages(messages.as_str())
-        }
-        _ => false,
+/// Whether these bytes are the lines of all answers.
+fn is_output(bytes: Vec<u8>) -> bool {
+    match String::from_utf8(bytes) {
+        Ok(output) => are_lines(output.as_str(), CLIENTS),
+        Err(_) => false,
     }
 }
 
+/// Whether these bytes are the messages.
+fn is_told(bytes: Vec<u8>) -> bool {
+    match String::from_utf8(bytes) {
+        Ok(messages) => are_messages(messages.as_str()),
+        Err(_) => false,
+    }
+}
+
+/// Whether that is what was left for the outputs.
+fn is_left<T: Wait>(threads: &T, outbox: &Outbox) -> bool {
+    let (output, messages) = outbox.take(threads);
+    is_output(output) && is_told(messages)
+}
+
 /// Whether a server has a line of each answer in its log.
-fn is_logged<T: AllocGlobal + Threads + Wait + Sync + Clock>(
+fn is_logged<T: AllocGlobal + Abort + Threads + Wait + Sync + Clock>(
     rt: &HostRuntime,
     threads: &T,
 ) -> io::Result<bool> {
-    let order = order_of(rt)?;
+    make_folder(rt, &LOGGED)?;
+    let (listener, address) = listen(rt)?;
     let outbox = Outbox::new(rt.alloc());
-    let (is_well, answered) = serve(rt, threads, order, &outbox)?;
-    Ok(is_well && answered == CLIENTS && is_left(threads, &outbox))
+    let are_served = are_served_at(rt, threads, listener, address, &outbox);
+    Ok(are_served && is_left(threads, &outbox))
 }
 
 #[test]
@@ -161,10 +158,13 @@ fn told(opened: Opened, verdict: Option<Verdict>) -> Told {
 }
 
 /// Whether what is told is a failure of this cause and status.
-fn has_cause(alloc: Global, told: &Told, text: &str, status: u8) -> Result<bool, AllocError> {
-    match cause_of(told) {
-        Some(cause) => { Ok(cause.to_string(alloc)?.as_str() == text && cause.status() == status) }
-        None => Ok(false),
+fn has_cause(alloc: Global, told: &Told, text: &str, status: u8) -> bool {
+    let Some(cause) = cause_of(told) else {
+        return false;
+    };
+    match cause.to_string(alloc) {
+        Ok(said) => said.as_str() == text && cause.status() == status,
+        Err(_) => false,
     }
 }
 
@@ -172,10 +172,7 @@ fn has_cause(alloc: Global, told: &Told, text: &str, status: u8) -> Result<bool,
 fn each_failure_has_its_cause_and_its_status(rt: HostRuntime) {
     for &(opened, verdict, text, status) in &FAILURES {
         let told = told(opened, verdict);
-        assert!(rt;
-            has_cause(rt.alloc(), &told, text, status) == Ok(true),
-            "{text}"
-        );
+        assert!(rt; has_cause(rt.alloc(), &told, text, status), "{text}");
     }
     let told = told(Opened::Ready, Some(Verdict::Ok));
     assert!(rt; cause_of(&told).is_none());

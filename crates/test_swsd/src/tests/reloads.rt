@@ -1,32 +1,61 @@
 //! A folder that is loaded anew where somebody asks for it, and what clients that have its pages
 //! are told.
 
-use std::io::{self, Read, Write};
-use std::net::{SocketAddr, TcpListener, TcpStream};
+use super::clients::{ask, listen};
+use super::orders::{Plan, make_folder, order_of, write_index};
+use std::net::{SocketAddr, TcpListener};
+use std::process::Abort;
 use std::sync::Wait;
 use std::thread::Threads;
 use std::time::{Clock, Duration};
-use std::{fs, thread};
+use std::{fs, io, thread};
 use sws_daemon::serve_at;
 use sws_outbox::Outbox;
-use sws_site::Additions;
-use swsd_words::{LogFault, Order};
 
 /// How often the page is asked for until it is another.
 const TRIES: u32 = 100;
 
+/// A file by which the server is asked to load the folder anew.
+const RELOAD: &str = "swsd_rows_again";
+
+/// Three lanes, for which nobody looks at the folder.
+static RELOADED: Plan = Plan {
+    folder: "swsd_rows_reload",
+    stop: "swsd_rows_reload_stop",
+    reload: Some(RELOAD),
+    workers: 1,
+    lanes: 3,
+    accepting: 2,
+    connections: 16,
+    grace: 5,
+    look: 0,
+    log: None,
+    quiet: false,
+};
+
 /// What comes back to a request with this field, to the end of the connection.
-fn ask(rt: &HostRuntime, address: SocketAddr, field: &str) -> io::Result<String> {
-    let alloc = rt.alloc();
-    let stream = TcpStream::connect(rt, address)?;
-    let request = format!(in alloc;
+fn ask_with(rt: &HostRuntime, address: SocketAddr, field: &str) -> io::Result<Vec<u8>> {
+    let request = format!(in rt.alloc();
         "GET / HTTP/1.1\r\nHost: x\r\nConnection: close\r\n{field}\r\n"
     )?;
-    (&stream).write_all(request.as_bytes())?;
-    let mut back = String::new(alloc);
-    (&stream).read_to_string(&mut back)?;
-    Ok(back)
+    ask(rt, address, request.as_bytes())
 }
+
+/// Whether what comes back to a request with this field begins and ends so.
+fn is_answered(rt: &HostRuntime, address: SocketAddr, field: &str, is: (&[u8], &[u8])) -> bool {
+    match ask_with(rt, address, field) {
+        Ok(back) => back.as_slice().starts_with(is.0) && back.as_slice().ends_with(is.1),
+        Err(_) => false,
+    }
+}
+
+/// How the answers begin and end that send the page as it is at first and as it is later, and those
+/// that don't send it.
+static FIRST: (&[u8], &[u8]) = (b"HTTP/1.1 200 OK\r\n", b"\r\n\r\nhi\n");
+
+static CHANGED: (&[u8], &[u8]) = (b"HTTP/1.1 200 OK\r\n", b"\r\n\r\nho\n");
+
+static NOT_AGAIN: (&[u8], &[u8]) = (b"HTTP/1.1 304 Not Modified\r\n", b"\r\n\r\n");
 
 /// The field that asks for the page only where it has changed since it was answered so.
 fn condition(rt: &HostRuntime, answer: &str) -> io::Result<String> {
@@ -38,124 +67,78 @@ fn condition(rt: &HostRuntime, answer: &str) -> io::Result<String> {
     Ok(String::new(rt.alloc()))
 }
 
-/// What was seen of a page and its change.
-#[derive(Drop)]
-struct Seen {
-    first: String,
-    again: String,
-    unasked: String,
-    changed: String,
+/// That field for the page as it is at first.
+fn first_condition(rt: &HostRuntime, address: SocketAddr) -> io::Result<String> {
+    let answer = ask_with(rt, address, "")?;
+    match str::from_utf8(answer.as_slice()) {
+        Ok(answer) => condition(rt, answer),
+        Err(_) => Ok(String::new(rt.alloc())),
+    }
 }
 
-/// Asks for the page, and again whether it has changed; then it changes, which nobody looks at, and
-/// then the reload file is written.
-fn see(rt: &HostRuntime, address: SocketAddr, reload: &str) -> io::Result<Seen> {
-    let first = ask(rt, address, "")?;
-    let field = condition(rt, first.as_str())?;
-    let again = ask(rt, address, field.as_str())?;
-    fs::write(rt, "swsd_rows_reload/index.html", b"ho\n")?;
-    thread::sleep(rt, Duration::from_millis(1500));
-    let unasked = ask(rt, address, field.as_str())?;
-    fs::write(rt, reload, b"")?;
-    let mut changed = ask(rt, address, field.as_str())?;
+/// Whether the page as it is later is sent in time.
+fn is_changed(rt: &HostRuntime, address: SocketAddr, field: &str) -> bool {
     for _ in 0..TRIES {
-        if changed.as_str().ends_with("ho\n") {
-            break;
+        if is_answered(rt, address, field, CHANGED) {
+            return true;
         }
         thread::sleep(rt, Duration::from_millis(100));
-        changed = ask(rt, address, field.as_str())?;
     }
-    Ok(Seen {
-        first,
-        again,
-        unasked,
-        changed,
-    })
+    false
 }
 
-/// What was seen, and then the stop file is made.
-fn see_and_stop(
-    rt: &HostRuntime,
-    address: SocketAddr,
-    stop: &str,
-    reload: &str,
-) -> io::Result<Seen> {
-    let seen = see(rt, address, reload);
-    fs::write(rt, stop, b"")?;
-    seen
+/// Whether the page, which changes, and which nobody looks at for more than a second, isn't sent until
+/// the reload file is written.
+fn is_sent_once_asked(rt: &HostRuntime, address: SocketAddr, field: &str) -> bool {
+    let is_again = is_answered(rt, address, field, NOT_AGAIN);
+    let is_written = write_index(rt, RELOADED.folder, b"ho\n").is_ok();
+    thread::sleep(rt, Duration::from_millis(1500));
+    let is_unasked = is_answered(rt, address, field, NOT_AGAIN);
+    let is_asked = fs::write(rt, RELOAD, b"").is_ok();
+    is_again && is_written && is_unasked && is_asked && is_changed(rt, address, field)
 }
 
-/// The folder, and the files that stop the server and have it load the folder anew.
-const FOLDER: &str = "swsd_rows_reload";
-
-const STOP: &str = "swsd_rows_reload_stop";
-
-const RELOAD: &str = "swsd_rows_again";
-
-/// The order that serves the folder on three lanes, which nobody looks at.
-fn order_of(rt: &HostRuntime) -> io::Result<Order> {
-    fs::create_dir_all(rt, FOLDER)?;
-    fs::write(rt, "swsd_rows_reload/index.html", b"hi\n")?;
-    let _ = fs::remove_file(rt, STOP);
-    let _ = fs::remove_file(rt, RELOAD);
-    Ok(Order {
-        folder: String::from_str(rt.alloc(), FOLDER)?,
-        listen: SocketAddr::from(([127, 0, 0, 1], 0)),
-        listen_too: Vec::new(rt.alloc()),
-        workers: 1,
-        lanes: 3,
-        accepting: 2,
-        connections: 16,
-        per_address: None,
-        fronts: Vec::new(rt.alloc()),
-        answers: 1000,
-        input: 4_194_304,
-        max_files: 65_536,
-        max_bytes: 1_073_741_824,
-        age: 600,
-        grace: 5,
-        look: 0,
-        stop_file: Some(String::from_str(rt.alloc(), STOP)?),
-        reload_file: Some(String::from_str(rt.alloc(), RELOAD)?),
-        log: None,
-        log_fault: LogFault::Go,
-        quiet: false,
-        hidden: false,
-        added: Additions::none(rt.alloc()),
-    })
+/// Whether the page is sent, not sent again until it is asked for anew, and sent as it is then.
+fn is_seen(rt: &HostRuntime, address: SocketAddr) -> bool {
+    match first_condition(rt, address) {
+        Ok(field) => {
+            is_answered(rt, address, "", FIRST) && is_sent_once_asked(rt, address, field.as_str())
+        }
+        Err(_) => false,
+    }
 }
 
-/// Serves by an order: what was seen, where the server ended well.
-fn serve<T: AllocGlobal + Threads + Wait + Sync + Clock>(
+/// The same, and then the stop file is made.
+fn see_and_stop(rt: &HostRuntime, address: SocketAddr) -> bool {
+    let is_seen = is_seen(rt, address);
+    fs::write(rt, RELOADED.stop, b"").is_ok() && is_seen
+}
+
+/// Whether the server ends well.
+fn is_served<T: AllocGlobal + Abort + Threads + Wait + Sync + Clock>(
     rt: &HostRuntime,
     threads: &T,
-    order: Order,
+    listeners: &[TcpListener],
     outbox: &Outbox,
-) -> io::Result<Option<Seen>> {
-    let listener = TcpListener::bind(rt, order.listen)?;
-    let address = listener.local_addr()?;
+) -> bool {
+    serve_at(rt, threads, order_of(threads, &RELOADED), listeners, outbox).is_ok()
+}
+
+/// Whether the server at this address ends well, and the page is seen so.
+fn are_served_at<T: AllocGlobal + Abort + Threads + Wait + Sync + Clock>(
+    rt: &HostRuntime,
+    threads: &T,
+    listener: TcpListener,
+    address: SocketAddr,
+    outbox: &Outbox,
+) -> bool {
     let listeners = [listener];
-    let (served, seen) = thread::join(
+    let (is_served, is_seen) = thread::join(
         threads,
-        || serve_at(rt, threads, order, &listeners, outbox),
-        || see_and_stop(rt, address, STOP, RELOAD),
+        || is_served(rt, threads, &listeners, outbox),
+        || see_and_stop(rt, address),
     );
-    let seen = seen?;
-    Ok(if served.is_ok() { Some(seen) } else { None })
-}
-
-/// Whether an answer begins and ends so.
-fn is_answer(answer: &String, begins: &str, ends: &str) -> bool {
-    answer.as_str().starts_with(begins) && answer.as_str().ends_with(ends)
-}
-
-/// Whether the page was sent, not sent again until it was asked for anew, and sent as it is then.
-fn is_seen(seen: &Seen) -> bool {
-    let not_again = "HTTP/1.1 304 Not Modified\r\n";
-    is_answer(&seen.first, "HTTP/1.1 200 OK\r\n", "\r\n\r\nhi\n")
-        && is_answer(&seen.again, not_again, "\r\n\r\n")
-        && is_answer(&seen.unasked, not_again, "\r\n\r\n")
-        && is_answer(&seen.changed, "HTTP/1.1 200 OK\r\n", "\r\n\r\nho\n")
+    is_served && is_seen
 }
 
 /// Whether it was said that the folder was loaded anew.
@@ -169,14 +152,15 @@ fn is_said<T: Wait>(threads: &T, outbox: &Outbox) -> bool {
 }
 
 /// Whether a page is sent again only where it has changed.
-fn is_sent_again<T: AllocGlobal + Threads + Wait + Sync + Clock>(
+fn is_sent_again<T: AllocGlobal + Abort + Threads + Wait + Sync + Clock>(
     rt: &HostRuntime,
     threads: &T,
 ) -> io::Result<bool> {
-    let order = order_of(rt)?;
+    make_folder(rt, &RELOADED)?;
+    let (listener, address) = listen(rt)?;
     let outbox = Outbox::new(rt.alloc());
-    let seen = serve(rt, threads, order, &outbox)?;
-    Ok(seen.is_some_and(|seen| is_seen(&seen)) && is_said(threads, &outbox))
+    let are_served = are_served_at(rt, threads, listener, address, &outbox);
+    Ok(are_served && is_said(threads, &outbox))
 }
 
 #[test]

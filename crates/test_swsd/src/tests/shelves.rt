@@ -1,10 +1,11 @@
 //! A folder that changes while its site is served.
 
-use std::alloc::AllocError;
+use super::orders::owned;
+use std::process::Abort;
 use std::sync::Wait;
 use std::{fs, io};
 use sws_shelf::{LoadFault, Notes, Origin, Shelf};
-use sws_site::Additions;
+use sws_site::{Additions, Site};
 
 const FOLDER: &str = "swsd_rows_shelf";
 
@@ -36,47 +37,84 @@ fn make_folder(rt: &HostRuntime) -> io::Result<()> {
     Ok(())
 }
 
-/// The shelf of a folder, where that is loaded.
-fn shelf_of(rt: &HostRuntime, folder: &str, notes: &mut Notes) -> io::Result<Option<Shelf>> {
-    let origin = Origin {
-        path: String::from_str(rt.alloc(), folder)?,
+/// Where the site of a folder comes from.
+fn origin_of(rt: &(impl AllocGlobal + Abort), folder: &str) -> Origin {
+    Origin {
+        path: owned(rt, folder),
         hidden: false,
         answers: 1000,
         input: 4_194_304,
         max_files: 65_536,
         max_bytes: 1_073_741_824,
         added: Additions::none(rt.alloc()),
-    };
-    Ok(Shelf::new(rt, origin, notes).ok())
+    }
 }
 
-/// Whether a site has the index and what is well known, and nothing that is hidden; and its folder is
-/// loaded anew where a file has come: the later site has it, and a later date.
+/// Whether the site of a shelf has a file of this name.
+fn has<R: Wait>(threads: &R, shelf: &Shelf, name: &[u8]) -> bool {
+    match shelf.site(threads) {
+        Ok(site) => site.lookup(name).is_some(),
+        Err(_) => false,
+    }
+}
+
+/// How many files the site of a shelf has.
+fn count_of<R: Wait>(threads: &R, shelf: &Shelf) -> usize {
+    match shelf.site(threads) {
+        Ok(site) => site.files(),
+        Err(_) => 0,
+    }
+}
+
+/// The date of the site of a shelf.
+fn date_of<R: Wait>(threads: &R, shelf: &Shelf) -> Option<u64> {
+    match shelf.site(threads) {
+        Ok(site) => site.date(),
+        Err(_) => None,
+    }
+}
+
+/// Whether the site of a shelf is the first one, which has the index and what is well known, and
+/// nothing that is hidden.
+fn is_first<R: Wait>(threads: &R, shelf: &Shelf) -> bool {
+    count_of(threads, shelf) == 2
+        && has(threads, shelf, b"index.html")
+        && has(threads, shelf, b".well-known/a")
+        && !has(threads, shelf, b".secret")
+        && !has(threads, shelf, b"new.txt")
+}
+
+/// Whether the site that somebody has stays as it is where the folder is loaded anew, and the later
+/// one has what has come, and a later date.
+fn is_loaded_beside<R: Wait>(
+    rt: &HostRuntime,
+    threads: &R,
+    shelf: &Shelf,
+    first: &Site,
+    notes: &mut Notes,
+) -> bool {
+    let is_other = shelf.look(rt, threads, false, notes) == Ok(true);
+    let is_kept = first.lookup(b"new.txt").is_none() && first.files() == 2;
+    // Both were loaded within a second of the changes.
+    let is_later = first.date().is_some() && date_of(threads, shelf) > first.date();
+    is_other && is_kept && is_later && has(threads, shelf, b"new.txt")
+}
+
+/// Whether a folder is loaded anew where a file has come.
 fn is_loaded_anew<R: Wait>(
     rt: &HostRuntime,
     threads: &R,
     shelf: &Shelf,
     notes: &mut Notes,
-) -> io::Result<bool> {
-    let first = shelf.site(threads)?;
-    let is_first = first.files() == 2
-        && first.lookup(b"index.html").is_some()
-        && first.lookup(b".well-known/a").is_some()
-        && first.lookup(b".secret").is_none();
+) -> bool {
     let is_same = shelf.look(rt, threads, false, notes) == Ok(false);
-    fs::write(rt, "swsd_rows_shelf/new.txt", b"new\n")?;
-    let is_other = shelf.look(rt, threads, false, notes) == Ok(true);
-    let second = shelf.site(threads)?;
-    // Both were loaded within a second of the changes.
-    let is_later = first.date().is_some() && second.date() > first.date();
-    Ok(
-        is_first
-            && is_same
-            && is_other
-            && second.lookup(b"new.txt").is_some()
-            && first.lookup(b"new.txt").is_none()
-            && is_later,
-    )
+    let is_written = fs::write(rt, "swsd_rows_shelf/new.txt", b"new\n").is_ok();
+    match shelf.site(threads) {
+        Ok(first) => {
+            is_same && is_written && is_loaded_beside(rt, threads, shelf, &first, notes)
+        }
+        Err(_) => false,
+    }
 }
 
 /// Whether it is loaded anew where one has come that is well known, and where somebody asks for it.
@@ -85,12 +123,11 @@ fn is_loaded_where_asked<R: Wait>(
     threads: &R,
     shelf: &Shelf,
     notes: &mut Notes,
-) -> io::Result<bool> {
-    fs::write(rt, "swsd_rows_shelf/.well-known/e", b"e\n")?;
-    let is_other = shelf.look(rt, threads, false, notes) == Ok(true);
-    let is_same = shelf.look(rt, threads, false, notes) == Ok(false);
-    let is_asked = shelf.look(rt, threads, true, notes) == Ok(true);
-    Ok(is_other && is_same && is_asked)
+) -> bool {
+    fs::write(rt, "swsd_rows_shelf/.well-known/e", b"e\n").is_ok()
+        && shelf.look(rt, threads, false, notes) == Ok(true)
+        && shelf.look(rt, threads, false, notes) == Ok(false)
+        && shelf.look(rt, threads, true, notes) == Ok(true)
 }
 
 /// Whether the site stays where the folder has gone, which is later than the one of this date.
@@ -100,40 +137,36 @@ fn is_kept<R: Wait>(
     shelf: &Shelf,
     notes: &mut Notes,
     date: Option<u64>,
-) -> io::Result<bool> {
-    fs::remove_dir_all(rt, FOLDER)?;
-    let is_gone = shelf.look(rt, threads, false, notes) == Err(LoadFault::Folder);
-    let third = shelf.site(threads)?;
-    Ok(
-        is_gone
-            && third.lookup(b"new.txt").is_some()
-            && third.lookup(b".well-known/e").is_some()
-            && third.date() > date,
-    )
+) -> bool {
+    fs::remove_dir_all(rt, FOLDER).is_ok()
+        && shelf.look(rt, threads, false, notes) == Err(LoadFault::Folder)
+        && has(threads, shelf, b"new.txt")
+        && has(threads, shelf, b".well-known/e")
+        && date_of(threads, shelf) > date
 }
 
-/// The date of the site of a shelf.
-fn date_of<R: Wait>(threads: &R, shelf: &Shelf) -> Result<Option<u64>, AllocError> {
-    Ok(shelf.site(threads)?.date())
+/// Whether all of this comes of the folder of a shelf.
+fn is_followed<R: Wait>(rt: &HostRuntime, threads: &R, shelf: &Shelf, notes: &mut Notes) -> bool {
+    let is_new = is_first(threads, shelf) && is_loaded_anew(rt, threads, shelf, notes);
+    let second = date_of(threads, shelf);
+    is_new
+        && is_loaded_where_asked(rt, threads, shelf, notes)
+        && is_kept(rt, threads, shelf, notes, second)
 }
 
-/// Whether all of this comes of a folder.
-fn is_followed<R: Wait>(rt: &HostRuntime, threads: &R) -> io::Result<bool> {
-    make_folder(rt)?;
+/// Whether the folder is loaded, and followed then.
+fn is_loaded_and_followed<R: AllocGlobal + Abort + Wait>(rt: &HostRuntime, threads: &R) -> bool {
     let mut notes = Notes::new(rt.alloc());
-    let Some(shelf) = shelf_of(rt, FOLDER, &mut notes)? else {
-        return Ok(false);
-    };
-    let is_new = is_loaded_anew(rt, threads, &shelf, &mut notes)?;
-    let second = date_of(threads, &shelf)?;
-    let is_asked = is_loaded_where_asked(rt, threads, &shelf, &mut notes)?;
-    let is_kept = is_kept(rt, threads, &shelf, &mut notes, second)?;
-    Ok(is_new && is_asked && is_kept)
+    match Shelf::new(rt, origin_of(threads, FOLDER), &mut notes) {
+        Ok(shelf) => is_followed(rt, threads, &shelf, &mut notes),
+        Err(_) => false,
+    }
 }
 
 #[test]
 fn a_folder_is_loaded_anew_where_it_has_changed(rt: HostRuntime) {
-    assert!(rt; matches!(is_followed(&rt, &rt), Ok(true)));
+    assert!(rt; make_folder(&rt).is_ok());
+    assert!(rt; is_loaded_and_followed(&rt, &rt));
 }
 
 /// Makes a folder with an index and a folder that lies too deep in it.
@@ -158,16 +191,16 @@ fn are_of_deep(notes: &Notes) -> bool {
 }
 
 /// Whether what lies too deep is left out and named.
-fn is_left_out<R: Wait>(rt: &HostRuntime, threads: &R) -> io::Result<bool> {
-    make_deep(rt)?;
+fn is_left_out<R: AllocGlobal + Abort + Wait>(rt: &HostRuntime, threads: &R) -> bool {
     let mut notes = Notes::new(rt.alloc());
-    match shelf_of(rt, "swsd_rows_deep", &mut notes)? {
-        Some(shelf) => Ok(shelf.site(threads)?.files() == 1 && are_of_deep(&notes)),
-        None => Ok(false),
+    match Shelf::new(rt, origin_of(threads, "swsd_rows_deep"), &mut notes) {
+        Ok(shelf) => count_of(threads, &shelf) == 1 && are_of_deep(&notes),
+        Err(_) => false,
     }
 }
 
 #[test]
 fn what_cant_be_read_is_left_out_and_named(rt: HostRuntime) {
-    assert!(rt; matches!(is_left_out(&rt, &rt), Ok(true)));
+    assert!(rt; make_deep(&rt).is_ok());
+    assert!(rt; is_left_out(&rt, &rt));
 }

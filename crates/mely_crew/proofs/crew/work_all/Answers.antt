@@ -1,12 +1,15 @@
 use denote.Param.{param}
 use denote.Param.Send.{sendable}
-use Rattle.std.proofs.Common.{◌<◌, ◌∙◌, Some, ap, sym, subst, length, arith}
+use Rattle.std.proofs.Common.{◌<◌, ◌∙◌, [], Some, ap, refl, sym, subst, length, arith}
 use Rattle.std.proofs.Crossing.{crosses}
 use Rattle.std.proofs.lemmas.Option.{slice_get-get_or, slice_get_within, get_or_from_slice_get}
 use Rattle.mely_fleet.proofs.fleet.FleetOf.TheSendSync as fleet
 use Rattle.mely_fleet.proofs.seat.SeatOf.TheSendSync as seat
 use Rattle.mely_weave.proofs.Wholes.GatherLemmas.{get_there}
 use Rattle.mely_worker.specs.Gated.{behind}
+use Rattle.mely_kept.specs.Frames.{shard_frame}
+use Rattle.mely_fleet.specs.Work.{standpoint}
+use Rattle.mely_fleet.proofs.MakesLemmas.{looked_itself}
 use Rattle.mely_fleet.specs.Seats.{IsSeatOf, HasMade}
 use Rattle.mely_fleet.proofs.CrossingLemmas.{kept_crosses}
 use Rattle.mely_crew.proofs.crew.work_all.Goals as goal
@@ -50,4 +53,19 @@ returns-clause-made g c place seat there =
       old.1,
       subst (λ s. HasMade g.S.Trail g.S.Fits.fits_under (behind g.S.Trail (g.G.Gate.passes c.args.gate.now place) g.A.App) c.args.app.now c.args.fleet.now old.0.passes old.0.worker s.passes s.worker) (change.left ∙ is)
           (subst (λ s. HasMade g.S.Trail g.S.Fits.fits_under (behind g.S.Trail (g.G.Gate.passes c.args.gate.now place) g.A.App) c.args.app.now c.args.fleet.now s.passes s.worker change.after_call.now.passes change.after_call.now.worker) (change.argument_is ∙ was) change.call.1),
+    )
+
+-- seats that were left as they were
+pub returns-then-leaves_all-clause-made : goal.returns-then-leaves_all-clause-made
+returns-then-leaves_all-clause-made g c place seat there =
+    let sits = (c.requires.seats place seat there).sits in (
+      seat,
+      there,
+      record {
+        rest = sits.rest;
+        rested = sits.rested;
+        again = sits.rest;
+        rests = sits.rested;
+        makes = ([], (looked_itself (standpoint (shard_frame g.S.Trail.frame_of) c.args.fleet.now seat.passes), refl));
+      },
     )

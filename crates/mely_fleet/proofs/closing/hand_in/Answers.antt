@@ -20,14 +20,15 @@ one_more items new column old x y pushed is same = pushed ∙ ap (λ c. items c 
 pub hand-init : goal.hand-init
 hand-init g c =
     let many = c.requires.as_many in
+    let columns = c.args.columns.now.items in
     record {
       many = refl;
       rest = omega (arith, many);
       left = ([], sym (append-nil c.args.row.items));
       not_yet = λ k d low. refl;
-      done = λ k d p from low. absurd (omega (arith, many, from, low));
-      len = λ k d from low. absurd (omega (arith, many, from, low));
-      capacity = λ k d from low. absurd (omega (arith, many, from, low));
+      done = λ k d p from low. absurd {A = (get_or columns k d).items ≡ (get_or columns k d).items ++ get_or c.args.row.items k p ∷ []} (omega (arith, many, from, low));
+      len = λ k d from low. absurd {A = vec_len (get_or columns k d) ≡ vec_len (get_or columns k d) + 1} (omega (arith, many, from, low));
+      capacity = λ k d from low. refl;
     }
 
 pub hand-preserved : goal.hand-preserved

@@ -1,4 +1,4 @@
-use Rattle.std.proofs.Common.{◌≡◌, ◌<◌, ◌++◌, ℕ, Some, length, get_or}
+use Rattle.std.proofs.Common.{◌≡◌, ◌<◌, ◌≤◌, ◌+◌, ◌++◌, ℕ, Some, length, get_or, vec_len, vec_capacity}
 use Rattle.std.specs.Prelude.{slice_get}
 use Rattle.std.specs.Vec.Iter.{into_iter_items, into_iter_len}
 use Rattle.mely_lock.specs.Words.{initial_value}
@@ -10,6 +10,8 @@ abbrev pub invariant-locks : goal.invariant-locks
 invariant-locks g l = record {
   split : l.yielded ++ into_iter_items l.value-iterator ≡ l.fn.values.items;
   left : into_iter_len l.value-iterator ≡ length (into_iter_items l.value-iterator);
+  room : vec_len l.locks + length (into_iter_items l.value-iterator) ≤ vec_capacity l.locks;
+  row_room : (n : ℕ) (d : _) → n < l.passes → vec_len (get_or l.rows.items n d) + length (into_iter_items l.value-iterator) ≤ vec_capacity (get_or l.rows.items n d);
   many : length l.rows.items ≡ l.passes;
   locks : length l.locks.items ≡ length l.yielded;
   rows : (n : ℕ) (d : _) → n < l.passes → IsInitialRow g.V.Kept.frame_of l.locks.items n (get_or l.rows.items n d).items;

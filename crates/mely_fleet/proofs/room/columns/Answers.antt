@@ -24,10 +24,10 @@ filled_push items len room left xs v was none has = record {
   room_left = all_push (λ k c. len c + left ≤ room c) xs v was.room_left has;
 }
 
-pub locks-preserved : goal.locks-preserved
-locks-preserved g c =
-    let at = c.locks.invariant in
-    let xs = c.locks.columns.items in
+pub lists-preserved : goal.lists-preserved
+lists-preserved g c =
+    let at = c.lists.invariant in
+    let xs = c.lists.columns.items in
     let one = c.in_ok-with_capacity.field-0 in
     let pushed : c.push_reserved.new.self.items ≡ xs ++ one ∷ [] = c.push_reserved.ensures.items in
     let longer : length c.push_reserved.new.self.items ≡ length xs + 1 = ap length pushed ∙ length-append xs (one ∷ []) in
@@ -40,9 +40,9 @@ locks-preserved g c =
       room = omega (arith, room, kept);
       len = omega (arith, len, len_more);
       many = omega (arith, many, longer);
-      filled = subst (λ l. AreFilled (λ list. list.items) vec_len vec_capacity [] c.args.passes l) (sym pushed)
-          (filled_push (λ list. list.items) vec_len vec_capacity c.args.passes xs one at.filled c.in_ok-with_capacity.ensures.items (let none = c.in_ok-with_capacity.ensures.len in let has = c.in_ok-with_capacity.ensures.capacity in omega (arith, none, has)));
+      filled = subst (λ l. AreFilled (λ list. list.items) vec_len vec_capacity [] c.args.room l) (sym pushed)
+          (filled_push (λ list. list.items) vec_len vec_capacity c.args.room xs one at.filled c.in_ok-with_capacity.ensures.items (let none = c.in_ok-with_capacity.ensures.len in let has = c.in_ok-with_capacity.ensures.capacity in omega (arith, none, has)));
     }
 
 pub returns-clause-room : goal.returns-clause-room
-returns-clause-room g c = c.locks.invariant.filled
+returns-clause-room g c = c.lists.invariant.filled

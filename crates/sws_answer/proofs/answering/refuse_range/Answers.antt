@@ -10,7 +10,7 @@ pub write_head-head-requires : goal.write_head-head-requires
 write_head-head-requires c = no_part_head-short c.options.result.now c.args.closes c.http_date.result.now (length c.body.result.now) c.body.ensures.within
 
 pub returns : goal.returns
-unfolding response fixed_body
+unfolding response fixed_body head_text
 returns c = record {
   code = c.code.ensures;
   closes = refl;

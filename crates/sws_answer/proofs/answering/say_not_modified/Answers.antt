@@ -11,7 +11,7 @@ returns c = λ selection. record {
   code = c.code.ensures;
   closes = refl;
   head = ap (λ (p : PartsState). p.head) c.lend.ensures ∙ c.head-head.ensures
-      ∙ ap (λ date. not_modified_head c.args.page.now.options date c.args.closes) c.requires.date
-      ∙ ap (λ options. not_modified_head options c.args.site.now.date c.args.closes) c.requires.options;
+      ∙ ap (λ date. not_modified_head c.args.page.now.options date c.args.page.now.file c.args.closes) c.requires.date
+      ∙ ap (λ options. not_modified_head options c.args.site.now.date c.args.page.now.file c.args.closes) c.requires.options;
   body = ap (λ (p : PartsState). p.body) c.lend.ensures ∙ c.content.ensures;
 }

@@ -2,12 +2,13 @@ use Rattle.std.proofs.Common.{◌++◌, ◌≤◌, List, ℕ, length, take, drop
 use Rattle.std.specs.Prelude.{codes, ◌-◌}
 use Rattle.std.proofs.lemmas.List.{take_all, length-take-le, length-drop}
 use Rattle.sws_site.specs.ResponseHeads.{line_end}
+use Rattle.sws_site.specs.Options.{no_age}
 use Rattle.sws_site.proofs.HeadLengthsLemmas.{head_text-short}
 use Rattle.sws_site.proofs.FolderLemmas.{unplaced, unplaced-long, redirect_head-is}
 use Rattle.sws_site.proofs.folders.redirect_head.Goals as goal
 
 pub write_head-own-requires : goal.write_head-own-requires
-write_head-own-requires c = head_text-short (unplaced c.args.options.now c.args.closes) (lit≤ tt) (lit< tt) tt c.args.options.now.added.short_age c.args.options.now.added.short_headers
+write_head-own-requires c = head_text-short (unplaced c.args.options.now c.args.closes) (lit≤ tt) (lit< tt) tt no_age c.args.options.now.added.short_headers
 
 pub slice_bounds-extend_from_slice-end : goal.slice_bounds-extend_from_slice-end
 slice_bounds-extend_from_slice-end c =

@@ -39,7 +39,7 @@ add_allow-requires c =
       length-added c.add_line-2.new.head c.add_line.new.head ((codes "Server: " ++ codes "sws") ++ line_end) c.add_line-2.ensures,
       length-added c.add_connection.new.head c.add_line-2.new.head (lines_text (connection_lines c.args.parts.now.closes c.args.parts.now.options.now.keeps_alive)) c.add_connection.ensures,
       length-added c.add_last_modified.new.head c.add_connection.new.head (lines_text (last_modified_lines c.row-row.result.is_dated c.args.parts.now.date.now)) c.add_last_modified.ensures,
-      length-added c.add_cache.new.head c.add_last_modified.new.head (lines_text (cache_lines c.row-row.result.is_dated c.args.parts.now.options.now.added.max_age)) c.add_cache.ensures,
+      length-added c.add_cache.new.head c.add_last_modified.new.head (lines_text (cache_lines c.row-row.result.is_dated c.args.parts.now.max_age)) c.add_cache.ensures,
     )
 
 pub add_range-requires : goal.add_range-requires
@@ -52,7 +52,7 @@ add_range-requires c =
       length-added c.add_line-2.new.head c.add_line.new.head ((codes "Server: " ++ codes "sws") ++ line_end) c.add_line-2.ensures,
       length-added c.add_connection.new.head c.add_line-2.new.head (lines_text (connection_lines c.args.parts.now.closes c.args.parts.now.options.now.keeps_alive)) c.add_connection.ensures,
       length-added c.add_last_modified.new.head c.add_connection.new.head (lines_text (last_modified_lines c.row-row.result.is_dated c.args.parts.now.date.now)) c.add_last_modified.ensures,
-      length-added c.add_cache.new.head c.add_last_modified.new.head (lines_text (cache_lines c.row-row.result.is_dated c.args.parts.now.options.now.added.max_age)) c.add_cache.ensures,
+      length-added c.add_cache.new.head c.add_last_modified.new.head (lines_text (cache_lines c.row-row.result.is_dated c.args.parts.now.max_age)) c.add_cache.ensures,
       length-added c.add_allow.new.head c.add_cache.new.head (lines_text (allow_lines c.row-row.result.lists_methods)) c.add_allow.ensures,
     )
 
@@ -66,7 +66,7 @@ add_content-requires c =
       length-added c.add_line-2.new.head c.add_line.new.head ((codes "Server: " ++ codes "sws") ++ line_end) c.add_line-2.ensures,
       length-added c.add_connection.new.head c.add_line-2.new.head (lines_text (connection_lines c.args.parts.now.closes c.args.parts.now.options.now.keeps_alive)) c.add_connection.ensures,
       length-added c.add_last_modified.new.head c.add_connection.new.head (lines_text (last_modified_lines c.row-row.result.is_dated c.args.parts.now.date.now)) c.add_last_modified.ensures,
-      length-added c.add_cache.new.head c.add_last_modified.new.head (lines_text (cache_lines c.row-row.result.is_dated c.args.parts.now.options.now.added.max_age)) c.add_cache.ensures,
+      length-added c.add_cache.new.head c.add_last_modified.new.head (lines_text (cache_lines c.row-row.result.is_dated c.args.parts.now.max_age)) c.add_cache.ensures,
       length-added c.add_allow.new.head c.add_cache.new.head (lines_text (allow_lines c.row-row.result.lists_methods)) c.add_allow.ensures,
       length-added c.add_range.new.head c.add_allow.new.head (lines_text (range_lines c.row-row.result.has_range c.args.parts.now.range)) c.add_range.ensures,
     )
@@ -81,7 +81,7 @@ put-requires c =
       length-added c.add_line-2.new.head c.add_line.new.head ((codes "Server: " ++ codes "sws") ++ line_end) c.add_line-2.ensures,
       length-added c.add_connection.new.head c.add_line-2.new.head (lines_text (connection_lines c.args.parts.now.closes c.args.parts.now.options.now.keeps_alive)) c.add_connection.ensures,
       length-added c.add_last_modified.new.head c.add_connection.new.head (lines_text (last_modified_lines c.row-row.result.is_dated c.args.parts.now.date.now)) c.add_last_modified.ensures,
-      length-added c.add_cache.new.head c.add_last_modified.new.head (lines_text (cache_lines c.row-row.result.is_dated c.args.parts.now.options.now.added.max_age)) c.add_cache.ensures,
+      length-added c.add_cache.new.head c.add_last_modified.new.head (lines_text (cache_lines c.row-row.result.is_dated c.args.parts.now.max_age)) c.add_cache.ensures,
       length-added c.add_allow.new.head c.add_cache.new.head (lines_text (allow_lines c.row-row.result.lists_methods)) c.add_allow.ensures,
       length-added c.add_range.new.head c.add_allow.new.head (lines_text (range_lines c.row-row.result.has_range c.args.parts.now.range)) c.add_range.ensures,
       length-added c.add_content.new.head c.add_range.new.head (lines_text (content_lines c.row-row.result.body c.args.parts.now.media_type.now c.args.parts.now.len)) c.add_content.ensures,
@@ -98,7 +98,7 @@ put-requires-2 c =
       length-added c.add_line-2.new.head c.add_line.new.head ((codes "Server: " ++ codes "sws") ++ line_end) c.add_line-2.ensures,
       length-added c.add_connection.new.head c.add_line-2.new.head (lines_text (connection_lines c.args.parts.now.closes c.args.parts.now.options.now.keeps_alive)) c.add_connection.ensures,
       length-added c.add_last_modified.new.head c.add_connection.new.head (lines_text (last_modified_lines c.row-row.result.is_dated c.args.parts.now.date.now)) c.add_last_modified.ensures,
-      length-added c.add_cache.new.head c.add_last_modified.new.head (lines_text (cache_lines c.row-row.result.is_dated c.args.parts.now.options.now.added.max_age)) c.add_cache.ensures,
+      length-added c.add_cache.new.head c.add_last_modified.new.head (lines_text (cache_lines c.row-row.result.is_dated c.args.parts.now.max_age)) c.add_cache.ensures,
       length-added c.add_allow.new.head c.add_cache.new.head (lines_text (allow_lines c.row-row.result.lists_methods)) c.add_allow.ensures,
       length-added c.add_range.new.head c.add_allow.new.head (lines_text (range_lines c.row-row.result.has_range c.args.parts.now.range)) c.add_range.ensures,
       length-added c.add_content.new.head c.add_range.new.head (lines_text (content_lines c.row-row.result.body c.args.parts.now.media_type.now c.args.parts.now.len)) c.add_content.ensures,

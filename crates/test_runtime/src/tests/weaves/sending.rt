@@ -8,7 +8,7 @@ use mely_worker::{App, Outs};
 use std::alloc::Global;
 
 /// A trail, and the events that were run on it as a list that can be read.
-pub(super) type Listing = Logged<Vec<Event>>;
+pub(crate) type Listing = Logged<Vec<Event>>;
 
 /// A state of a colour, on which nothing was run.
 pub(super) fn listing_of(alloc: Global, colour: u16) -> Listing
@@ -22,7 +22,7 @@ pub(super) fn listing_of(alloc: Global, colour: u16) -> Listing
 
 /// Handler 0 registers nothing. Handler 1 registers handler 0 on the colour of its argument.
 #[derive(Drop)]
-pub(super) struct Sending;
+pub(crate) struct Sending;
 
 impl App for Sending {
     type Load = u8;

@@ -10,7 +10,7 @@ use mely_worker::Access;
 use std::alloc::Global;
 
 /// A call that a worker is to make, and the answer that it is given.
-#[derive(Clone, Copy, PartialEq, Eq)]
+#[derive(Clone, Copy)]
 pub(super) enum Call {
     /// Without an answer there is no memory.
     Register(Colour, Event, Option<u8>, Option<Registered>),
@@ -88,8 +88,11 @@ fn turn_of(alloc: Global, colour: Colour) -> Option<Turn<Ledger, u8>>
         },
     };
     let mut events = Vec::new(alloc);
-    events.push((Event { handler: 1, arg: 5 }, Some(7))).ok()?;
-    events.push((Event { handler: 0, arg: 6 }, None)).ok()?;
+    let first = (Event { handler: 1, arg: 5 }, Some(7));
+    let second = (Event { handler: 0, arg: 6 }, None);
+    if events.push(first).is_err() || events.push(second).is_err() {
+        return None;
+    }
     Some(Turn::new(colour, 0, state, events))
 }
 
@@ -198,8 +201,9 @@ impl Access<Ledger, u8> for Script {
     }
 
     fn push(&mut self, core: u16, mark: Mark) -> Result<(), There> {
-        if self.next() != Some(Call::Push(core, mark)) {
-            self.astray = true;
+        match self.next() {
+            Some(Call::Push(k, m)) if k == core && m == mark => {}
+            _ => self.astray = true,
         }
         Ok(())
     }

@@ -1,38 +1,36 @@
 //! What the worlds in memory give with ample memory.
-ghost use Rattle.std.specs.Prelude.{◌≡◌, ◌<◌, ◌≤◌, ◌+◌, IfOk};
+ghost use Rattle.std.specs.Prelude.{◌≡◌, ◌<◌, ◌≤◌, ◌+◌};
 ghost use Rattle.sws_link.specs.MemWorlds.{mem_world_tells, sure_world_tells};
 
-use std::alloc::{AllocError, Global};
-use sws_link::{
-    Accepted, Link, LinkItem, LinkRead, MemLink, MemWorld, Opened, Polled, SureLink, SureWorld,
-    World,
-};
-
-/// The items of a link with so many bytes to read.
-fn filled(alloc: Global, count: u32) -> Result<Vec<LinkItem>, AllocError> {
-    Ok(vec![in alloc; LinkItem::Fill(count)]?)
-}
+use super::{Item, calls_of, failing_link, sure_link};
+use std::process::Abort;
+use sws_link::{Accepted, Link, LinkRead, MemWorld, Opened, Polled, SureWorld, World};
 
 /// A world of a link with one byte to read, and one with two, whose calls of these numbers fail.
-fn two_links(alloc: Global, failing: &[u32]) -> Result<MemWorld, AllocError>
-    ensures total { IfOk result (λ world. (mem_world_tells world).total ≡ 2) }
-    ensures accepted { IfOk result (λ world. (mem_world_tells world).accepted ≡ 0) }
+fn two_links(rt: &(impl AllocGlobal + Abort), failing: &[u32]) -> MemWorld
+    ensures total { (mem_world_tells result).total ≡ 2 }
+    ensures accepted { (mem_world_tells result).accepted ≡ 0 }
 {
-    let one = MemLink::new(alloc, filled(alloc, 1)?, None, None, Vec::new(alloc));
-    let two = MemLink::new(alloc, filled(alloc, 2)?, None, None, Vec::new(alloc));
-    let links = vec![in alloc; one, two]?;
-    Ok(MemWorld::new(links, failing.to_vec(alloc)?))
+    let mut links = Vec::new(rt.alloc());
+    links
+        .push(failing_link(rt, &[Item::Fill(1)], &[]))
+        .expect(rt, "memory");
+    links
+        .push(failing_link(rt, &[Item::Fill(2)], &[]))
+        .expect(rt, "memory");
+    MemWorld::new(links, calls_of(rt, failing))
 }
 
 /// A world without faults, of the first of these.
-fn one_link(alloc: Global) -> Result<SureWorld, AllocError>
-    ensures total { IfOk result (λ world. (sure_world_tells world).total ≡ 1) }
-    ensures accepted { IfOk result (λ world. (sure_world_tells world).accepted ≡ 0) }
+fn one_link(rt: &(impl AllocGlobal + Abort)) -> SureWorld
+    ensures total { (sure_world_tells result).total ≡ 1 }
+    ensures accepted { (sure_world_tells result).accepted ≡ 0 }
 {
-    let mut one = Vec::new(alloc);
-    one.push(LinkItem::Fill(1))?;
-    let link = SureLink::new(alloc, one, None);
-    Ok(SureWorld::new(vec![in alloc; link]?))
+    let mut links = Vec::new(rt.alloc());
+    links
+        .push(sure_link(rt, b"", 0, 1, None))
+        .expect(rt, "memory");
+    SureWorld::new(links)
 }
 
 /// A call of a world, with what it answers.
@@ -164,19 +162,10 @@ static ROWS: [(&str, &[u32], &[Call]); 6] = [
     ),
 ];
 
-/// Whether a world of two links whose calls of these numbers fail answers all these calls so.
-fn world_plays(alloc: Global, failing: &[u32], calls: &[Call]) -> Result<bool, AllocError> {
-    let mut world = two_links(alloc, failing)?;
-    Ok(plays(&mut world, calls))
-}
-
 #[test]
 fn a_world_answers_in_order_and_fails_where_it_is_told_to(rt: HostRuntime) {
     for &(what, failing, calls) in &ROWS {
-        assert!(rt;
-            world_plays(rt.alloc(), failing, calls) == Ok(true),
-            "{what}"
-        );
+        assert!(rt; plays(&mut two_links(&rt, failing), calls), "{what}");
     }
 }
 
@@ -189,26 +178,22 @@ static SURE: [Call; 6] = [
     Call::Open(1, Opened::Ready),
 ];
 
-fn sure_world_plays(alloc: Global, calls: &[Call]) -> Result<bool, AllocError> {
-    let mut world = one_link(alloc)?;
-    Ok(plays(&mut world, calls))
-}
-
 #[test]
 fn a_sure_world_never_fails(rt: HostRuntime) {
-    assert!(rt; sure_world_plays(rt.alloc(), &SURE) == Ok(true));
+    assert!(rt; plays(&mut one_link(&rt), &SURE));
 }
 
-/// Whether the first link of a world comes at once, and isn't shut.
-fn first_link_is_open(alloc: Global) -> Result<bool, AllocError> {
-    let mut world = two_links(alloc, &[])?;
-    Ok(match world.accept() {
+/// Whether the next link comes at once, and isn't shut.
+fn next_is_open(world: &mut MemWorld) -> bool
+    requires { (mem_world_tells world.old).accepted < (mem_world_tells world.old).total }
+{
+    match world.accept() {
         Accepted::Link(link) => !link.is_shut(),
         Accepted::NotYet | Accepted::Failed => false,
-    })
+    }
 }
 
 #[test]
 fn a_link_that_comes_is_not_shut(rt: HostRuntime) {
-    assert!(rt; first_link_is_open(rt.alloc()) == Ok(true));
+    assert!(rt; next_is_open(&mut two_links(&rt, &[])));
 }

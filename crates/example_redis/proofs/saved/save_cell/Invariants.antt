@@ -1,6 +1,0 @@
-use Rattle.std.proofs.Common.{◌≡◌, ◌++◌}
-use Rattle.example_redis.specs.Saved.{saved_entries}
-use Rattle.example_redis.proofs.saved.save_cell.Given as goal
-
-abbrev pub invariant-entries : goal.invariant-entries
-invariant-entries l = l.out.items ++ saved_entries l.key-iterator ≡ l.fn.out.items ++ saved_entries l.fn.values.entries

@@ -1,5 +1,0 @@
-use Rattle.std.proofs.Common.{◌≡◌, false}
-use Rattle.test_conn.proofs.tests.connections.leaves.Given as goal
-
-abbrev pub invariant-turns : goal.invariant-turns
-invariant-turns l = l.link.shut ≡ false

@@ -1,5 +1,0 @@
-use Rattle.sws_net.specs.Initial.{IsOpen}
-use Rattle.test_sockets.proofs.tests.slow.take_while_written.Given as goal
-
-abbrev pub invariant-pieces : goal.invariant-pieces
-invariant-pieces l = IsOpen l.link
