@@ -1,9 +1,9 @@
 #!/usr/bin/env python3
-"""Measures a map that is spread over colours (`measure_kv`, over `mely_actor`) beside the same in plain Rust with locks, and prints a table.
+"""Measures a map that is spread over colours (`measure kv`, over `mely_actor`) beside the same in plain Rust with locks, and prints a table.
 
     bench/actors.py [--runs N] [--check]
 
-It wants `measure_kv` built (`rt run` in crates/measure_kv) and rustc. 64 clients send messages to 64 buckets, every other one a put, and the
+It wants `measure` built (`rt run` in crates/measure) and rustc. 64 clients send messages to 64 buckets, every other one a put, and the
 work of a message is so many rounds of a generator, of about 10 us or 1 us. The peers are one std mutex round one `HashMap`, and 64 such
 maps by the key's remainder, each with the work under the lock, as a handler of a colour does it, and beside it. All is by the clock, the
 least of so many runs with the programs in turn, so it wants a machine that does nothing else. A program keeps what it received: the
@@ -17,7 +17,7 @@ import tempfile
 import time
 
 TOP = os.path.dirname(os.path.dirname(os.path.abspath(__file__)))
-LOOP = os.path.join(TOP, "crates", "measure_kv", "out", "measure_kv")
+MEASURE = os.path.join(TOP, "crates", "measure", "out", "measure")
 PEER = os.path.join(TOP, "bench", "peer", "src", "kv.rs")
 CLIENTS = 64
 
@@ -27,7 +27,7 @@ WORK = ((62_000, 2_000), (5_000, 10_000))
 
 def programs(peer):
     """Each program by its name: its words before and behind the three numbers."""
-    yield "colours", [LOOP], []
+    yield "colours", [MEASURE, "kv"], []
     for how, name in (("one", "one lock"), ("sharded", "64 locks")):
         yield f"{name}, work under it", [peer], [how]
         yield f"{name}, work beside it", [peer], [how, "out"]
@@ -77,8 +77,8 @@ def main():
     words.add_argument("--runs", type=int, default=5, help="runs of each program (default 5)")
     words.add_argument("--check", action="store_true", help="only compare what the programs print")
     given = words.parse_args()
-    if not os.access(LOOP, os.X_OK):
-        sys.exit("actors: measure_kv isn't built")
+    if not os.access(MEASURE, os.X_OK):
+        sys.exit("actors: measure isn't built")
     with tempfile.TemporaryDirectory(prefix="sws-actors-") as folder:
         peer = os.path.join(folder, "kv")
         subprocess.run(["rustc", "--edition", "2021", "-C", "opt-level=3", "-o", peer, PEER], check=True)

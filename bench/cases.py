@@ -24,7 +24,7 @@ isn't gone. What it prints as gone has been dropped or is written otherwise, and
 is gone, or where the values are fewer than they were.
 
 The data of the stored runs counts too, since a case that stands there needs no code: a text or a number that stands in the `stdin`, the
-`args` or the `stdout` of a crate of the name run_.. isn't gone, and each of their lines is a value. Their lines are read as `run_cases`
+`args` or the `stdout` of `sws_main` or a crate of the name run_.. isn't gone, and each of their lines is a value. Their lines are read as `run_cases`
 reads them, so a text stands there also where it is what several of them put together, or what they show. A variant stands there by the
 word or the line that is printed for it.
 
@@ -174,7 +174,7 @@ class Stored:
     def __init__(self):
         self.lines, self.bytes, self.numbers = 0, [], set()
         for crate in sorted(os.listdir(f"{TOP}/crates")):
-            for name in ("args", "stdin", "stdout") if crate.startswith("run_") else ():
+            for name in ("args", "stdin", "stdout") if crate == "sws_main" or crate.startswith("run_") else ():
                 path = f"{TOP}/crates/{crate}/{name}"
                 if os.path.exists(path):
                     with open(path, encoding="utf-8") as it:

@@ -378,6 +378,153 @@ def per_address(_):
     yield not wrong, f"three connections an address, a fourth, another address and a front, otherwise: {wrong[:3]} ({told})"
 
 
+def library(folder, name):
+    """A library that stands before the machine's, built of bench/NAME.c; nothing where there is no compiler."""
+    made = os.path.join(folder, f"{name}.so")
+    with contextlib.suppress(OSError):
+        if subprocess.run(["gcc", "-O2", "-shared", "-fPIC", "-o", made, os.path.join(staying.TOP, "bench", f"{name}.c"), "-ldl"], check=False).returncode == 0:
+            return made
+    return None
+
+
+def unwatched(_):
+    """A connection that the machine has no memory to watch is closed without an answer, and another one of its generation, in the middle of a request, stays
+    until it is answered, though the generation takes no further one by then."""
+    with tempfile.TemporaryDirectory(prefix="swsd-unwatched-") as room, site() as folder:
+        made = library(room, "unwatched")
+        if not made:
+            yield True, "not tried, as there is no compiler"
+            return
+        words = ["env", f"LD_PRELOAD={made}"]
+        with Server(folder, "--lanes", "2", "--accepting", "1", "--age", "1", before=words) as server, server.connect() as first:
+            first.sendall(HEAD[:20])
+            time.sleep(0.3)
+            closed = None
+            with server.connect() as second, contextlib.suppress(ConnectionResetError):
+                second.sendall(HEAD)
+                closed = b""
+                closed = second.recv(1)
+            until = time.monotonic() + 10
+            while not server.ask().endswith(b"0123456789") and time.monotonic() < until:
+                time.sleep(0.1)
+            time.sleep(2)
+            got = b""
+            with contextlib.suppress(OSError):
+                first.sendall(HEAD[20:])
+                got = answer_on(first)
+            status, told = server.end()
+    is_right = status == 0 and closed == b"" and got.endswith(b"0123456789")
+    yield is_right, f"the second connection, unwatched, got {len(closed)} bytes, and the first one, two seconds later, {len(got)} ({told})"
+
+
+SIGNATURE = b"\r\n\r\n\0\r\nQUIT\n"
+FROM_4 = bytes([198, 51, 100, 9, 127, 0, 0, 1, 19, 136, 0, 80])
+FROM_6 = bytes.fromhex("20010db8") + bytes(11) + b"\x05" + bytes(15) + b"\x01" + bytes([19, 136, 0, 80])
+
+
+def block(command, family, text, size=None):
+    """A header of version 2 of the PROXY protocol."""
+    return SIGNATURE + bytes([command, family]) + (len(text) if size is None else size).to_bytes(2, "big") + text
+
+
+# Headers of a proxy, and the client that the log is to name.
+PROXIED = [
+    (b"PROXY TCP4 192.0.2.7 127.0.0.1 5000 80\r\n", "192.0.2.7"),
+    (b"PROXY TCP6 2001:db8::7 ::1 5000 80\r\n", "2001:db8::7"),
+    (b"PROXY TCP6 ::ffff:192.0.2.8 ::1 65535 0\r\n", "192.0.2.8"),
+    (b"PROXY UNKNOWN\r\n", "127.0.0.2"),
+    (b"PROXY UNKNOWN ffff::1 whatever\r\n", "127.0.0.2"),
+    (block(0x21, 0x11, FROM_4), "198.51.100.9"),
+    (block(0x21, 0x21, FROM_6), "2001:db8::5"),
+    (block(0x21, 0x11, FROM_4 + b"\x04\0\x02ab" + bytes(200)), "198.51.100.9"),
+    (block(0x21, 0x11, FROM_4 + bytes(508)), "198.51.100.9"),
+    (block(0x20, 0x11, FROM_4), "127.0.0.2"),
+    (block(0x21, 0, b""), "127.0.0.2"),
+]
+
+# What is none.
+UNPROXIED = [
+    b"",
+    b"PROXY TCP4 192.0.2.256 127.0.0.1 5000 80\r\n",
+    b"PROXY TCP4 ::1 ::1 5000 80\r\n",
+    b"PROXY TCP4  192.0.2.7 127.0.0.1 5000 80\r\n",
+    b"PROXY TCP4 192.0.2.7 127.0.0.1 65536 80\r\n",
+    b"PROXY TCP4 192.0.2.7 127.0.0.1 5000 80\n",
+    b"PROXY TCP4 192.0.2.7 127.0.0.1 5000 80 \r\n",
+    b"PROXY UNKNOWN " + b"x" * 92 + b"\r\n",
+    block(0x22, 0x11, FROM_4),
+    block(0x31, 0x11, FROM_4),
+    block(0x21, 0x11, FROM_4[:8]),
+    block(0x21, 0x11, FROM_4 + bytes(509)),
+]
+
+
+def sent_from(server, source, *pieces, is_cut=False, is_kept=False):
+    """What comes of these pieces, a tenth of a second apart, on a connection from this address."""
+    it = socket.create_connection(("127.0.0.1", server.port), timeout=30, source_address=(source, 0))
+    got = b""
+    with contextlib.suppress(ConnectionResetError, BrokenPipeError):
+        it.setsockopt(socket.IPPROTO_TCP, socket.TCP_NODELAY, 1)
+        for number, piece in enumerate(pieces):
+            time.sleep(0.1 if number else 0)
+            it.sendall(piece)
+        if is_cut:
+            it.shutdown(socket.SHUT_WR)
+        if is_kept:
+            return answer_on(it), it
+        while piece := it.recv(1 << 16):
+            got += piece
+    it.close()
+    return got, None
+
+
+def proxied(is_quick):
+    """Connections of a proxy: the log names the client of its header, whole or in pieces; one without a header, with a bad one or one that is cut off is closed
+    without an answer, as is one that stops within it; `--per-address` counts the clients; from another address a header is a bad request; and a word that is no
+    address is named."""
+    wrong, proxy = [], "127.0.0.2"
+    with site() as folder, tempfile.NamedTemporaryFile() as output:
+        with Server(folder, "--log", "--proxy", "127.0.0.9", "--proxy", proxy, output=output.name) as server:
+            for number, (header, client) in enumerate(PROXIED, 1):
+                for pieces in ([header + HEAD], [header[:5], header[5:15], header[15:] + HEAD[:9], HEAD[9:]]):
+                    got, _ = sent_from(server, proxy, *pieces)
+                    if not got.endswith(b"\r\n\r\n0123456789"):
+                        wrong.append((header, len(pieces), got))
+                if not is_soon(lambda: len(server.log()) >= 2 * number) or [line.split()[0] for line in server.log()[-2:]] != [client] * 2:
+                    wrong.append((header, server.log()[-2:]))
+            for text in UNPROXIED:
+                began = time.monotonic()
+                if sent_from(server, proxy, text + HEAD)[0] or time.monotonic() - began > 2:
+                    wrong.append((text, "answered"))
+            for header, _ in PROXIED[0], PROXIED[5]:
+                for size in (0, 3, 14, len(header) - 1):
+                    began = time.monotonic()
+                    if sent_from(server, proxy, header[:size], is_cut=True)[0] or time.monotonic() - began > 2:
+                        wrong.append((header[:size], "not closed"))
+            began = time.monotonic()
+            if not is_quick and (sent_from(server, proxy, PROXIED[0][0][:20])[0] or not 20 < time.monotonic() - began < 45):
+                wrong.append(("a slow one", time.monotonic() - began))
+            if not sent_from(server, "127.0.0.1", PROXIED[0][0] + HEAD)[0].startswith(b"HTTP/1.1 400 "):
+                wrong.append("a header of somebody else isn't refused")
+            status, told = server.end()
+        if status != 0 or told.get("fault") != len(UNPROXIED):
+            wrong.append((status, told))
+        with Server(folder, "--per-address", "2", "--proxy", proxy) as server:
+            held = [sent_from(server, proxy, PROXIED[place][0] + KEPT, is_kept=True) for place in (0, 0, 0, 5, 3)]
+            if [got.endswith(b"0123456789") for got, _ in held] != [True, True, False, True, True]:
+                wrong.append([got for got, _ in held])
+            held[0][1].close()
+            if not is_soon(lambda: sent_from(server, proxy, PROXIED[0][0] + HEAD)[0] != b"", 5):
+                wrong.append("no room after an end")
+            status, more = server.end()
+            if status != 0 or more.get("refused", 0) < 1:
+                wrong.append((status, more))
+        done = subprocess.run([staying.SWSD, folder, "--listen", "127.0.0.1:0", "--proxy", "here"], capture_output=True, text=True, timeout=30, check=False)
+        if done.returncode != 2 or "invalid value 'here' for '--proxy <ADDRESS>'" not in done.stderr:
+            wrong.append((done.returncode, done.stderr))
+    yield not wrong, f"{len(PROXIED)} headers of a proxy, whole and in pieces, {len(UNPROXIED)} that are none, 8 that are cut, otherwise: {wrong[:3]} ({told})"
+
+
 def dates(is_quick):
     """A page that changes several times a second while it is loaded anew as often as somebody asks: no date is that of two states of it, none goes
     back or is to come, and who has the newest is told so."""
@@ -740,11 +887,11 @@ def log_unwritten(_):
         yield is_right, f"--log-fault {fault}: {answered} answered, status {status}, {'it ended by itself' if has_ended else 'it went on'}; {', '.join(lost)}"
 
 
-CASES = [bursts, after_the_stop, kept_connections, without_proc, per_address, dates, tricklers, moving_downloads, held_lanes, unread_files,
+CASES = [bursts, after_the_stop, kept_connections, without_proc, per_address, unwatched, proxied, dates, tricklers, moving_downloads, held_lanes, unread_files,
          bytes_in_turn, redirects, additions, read_twice, many_answers, old_clients, gone_on, site_limits, addresses, log_lines, log_under_load,
          log_unwritten]
 
-QUICK = [bursts, after_the_stop, without_proc, per_address, dates, tricklers, unread_files, redirects, additions, read_twice, many_answers,
+QUICK = [bursts, after_the_stop, without_proc, per_address, unwatched, proxied, dates, tricklers, unread_files, redirects, additions, read_twice, many_answers,
          old_clients, gone_on, site_limits, addresses, log_lines, log_under_load, log_unwritten]
 
 

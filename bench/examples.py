@@ -4,8 +4,8 @@
     bench/examples.py [--check | --list | --docs]
 
 An example is a fenced block in a `//!` or `///` comment of a file in `crates/*/src`. It stands where its text is code, and no comment,
-of a file of a crate in crates.txt, most often of a test in one of the crates `test_pages_..`: then it is compiled and proved with that
-crate. Texts are compared by their tokens in order, with nothing between them: comments, as those that say what comes out,
+of a file of a crate in crates.txt, most often of a test in `test_fleet` (`src/tests/pages/`) or `test_pages_server`: then it is compiled
+and proved with that crate. Texts are compared by their tokens in order, with nothing between them: comments, as those that say what comes out,
 don't count, nor do line breaks, indentation, and a comma before a bracket that closes, which the layout decides.
 A block that is no code has another word than `text` behind its fence: `usage` for words of a command, `output` for what is printed, `diagram`
 for a picture; nothing is asked of it.

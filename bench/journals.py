@@ -2,7 +2,7 @@
 """bench/journals.py PROGRAM JOURNAL [CONNECTIONS WORKERS SHARDS BATCH COST] [--entries N] [--long N]
 
 Tries the checker of journals on changed journals. It takes the journal of a run, leaves out, doubles and changes its lines in
-turn, has PROGRAM (the built `measure_check`) check each text, and compares its answer with that of a judge of its own, below, which
+turn, has PROGRAM (the built `measure`, by its part `check`) check each text, and compares its answer with that of a judge of its own, below, which
 is written from the rules alone: what is accepted with which sums, and else the fault with its line or colour. Any difference is
 printed, and the status is then 1.
 
@@ -127,7 +127,7 @@ def judge(setup, text):
 
 def found(program, setup, text):
     """What the program finds of a text, in the same form."""
-    run = subprocess.run([program, *map(str, setup)], input=text, capture_output=True, timeout=120)
+    run = subprocess.run([program, "check", *map(str, setup)], input=text, capture_output=True, timeout=120)
     if run.returncode == 0:
         return (0, run.stdout.decode())
     digits = "".join(c for c in run.stderr.decode().split("{")[-1] if c.isdigit())
@@ -262,7 +262,7 @@ def measure(program, setup, entries):
     with tempfile.NamedTemporaryFile() as file:
         long_journal(setup, entries, file.name)
         size = os.path.getsize(file.name)
-        words = [program, *map(str, setup)]
+        words = [program, "check", *map(str, setup)]
         for what, more in ((f"a journal of {entries} entries, {size} bytes", []), ("as many made and judged in memory", [str(entries // 3)])):
             took, held = timed(words + more, file.name)
             print(f"{what}: {took:.2f} s, {entries / took / 1e6:.2f} million entries a second, {held} KiB held")

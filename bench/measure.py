@@ -4,10 +4,9 @@ in one run, and prints a table.
 
     bench/measure.py [--runs N]
 
-It wants the eight programs built (`./sws` builds the server, `rt run` in crates/measure_shard, crates/measure_lock,
-crates/measure_chain, crates/measure_weave, crates/measure_fleet, crates/measure_conn and crates/measure_text the others) and cargo with Debian's librust-httparse-dev, librust-httpdate-dev,
-librust-memchr-dev and librust-percent-encoding-dev. All that it makes stands in a new folder below the system's
-temporary one, about 400 MB, and is removed at the end. No traffic leaves the machine: both programs read a file and
+It wants both programs built (`./sws` builds the server, `rt run` in crates/measure the other) and cargo with Debian's
+librust-httparse-dev, librust-httpdate-dev, librust-memchr-dev and librust-percent-encoding-dev. All that it makes stands in a new
+folder below the system's temporary one, about 400 MB, and is removed at the end. No traffic leaves the machine: both programs read a file and
 write to a file or to nothing. Times are seconds on a processor (user and system), the least of all runs, so that they say
 little of what else the machine does; but how much faster several workers are is by the clock, so it wants a machine
 that does nothing else, and the calls of the system that wake and sleep are counted where strace is there.
@@ -24,13 +23,7 @@ import time
 
 TOP = os.path.dirname(os.path.dirname(os.path.abspath(__file__)))
 SWS = os.path.join(TOP, "crates", "sws_main", "out", "sws_main")
-LOOP = os.path.join(TOP, "crates", "measure_shard", "out", "measure_shard")
-LOCK = os.path.join(TOP, "crates", "measure_lock", "out", "measure_lock")
-CHAIN = os.path.join(TOP, "crates", "measure_chain", "out", "measure_chain")
-WEAVE = os.path.join(TOP, "crates", "measure_weave", "out", "measure_weave")
-FLEET = os.path.join(TOP, "crates", "measure_fleet", "out", "measure_fleet")
-CONN = os.path.join(TOP, "crates", "measure_conn", "out", "measure_conn")
-TEXT = os.path.join(TOP, "crates", "measure_text", "out", "measure_text")
+MEASURE = os.path.join(TOP, "crates", "measure", "out", "measure")
 PEER = os.path.join(TOP, "bench", "peer")
 
 BROWSER_HEAD = "\r\n".join([
@@ -117,9 +110,9 @@ def shard(folder, peer, floor):
     none = put(os.path.join(folder, "none"), b"")
     for batch in (1, 10):
         programs = {}
-        for name, program in (("shard", LOOP), ("peer", peer), ("peer with history and trail", floor)):
+        for name, program in (("shard", [MEASURE, "shard"]), ("peer", [peer]), ("peer with history and trail", [floor])):
             for events in (0, 1_000_000):
-                programs[name, events] = ([program, str(events), str(batch)], none)
+                programs[name, events] = ([*program, str(events), str(batch)], none)
         seen = alternate(programs, 9)
         for name in ("shard", "peer", "peer with history and trail"):
             nanos = (seen[name, 1_000_000][0] - seen[name, 0][0]) * 1000
@@ -132,7 +125,8 @@ def lock(folder, peer):
     pairs = 320_000
     for threads in (1, 2, 4, 64):
         programs = {}
-        for name, words in (("ticketed", [LOCK, "ticketed"]), ("shard", [LOCK, "shard"]), ("mutex", [LOCK, "mutex"]), ("peer", [peer])):
+        kinds = {kind: [MEASURE, "lock", kind] for kind in ("ticketed", "shard", "mutex")}
+        for name, words in (*kinds.items(), ("peer", [peer])):
             for count in (0, pairs // threads):
                 programs[name, count > 0] = (words + [str(threads), str(count)], none)
         seen = alternate(programs, 9)
@@ -147,9 +141,9 @@ def chain(folder, peer):
     for marks, calls in ((64, 4_000_000), (4096, 4_000_000), (65_536, 4_000_000)):
         for call in ("pop", "pick", "retell"):
             programs = {}
-            for name, program in (("chain", CHAIN), ("peer", peer)):
+            for name, program in (("chain", [MEASURE, "chain"]), ("peer", [peer])):
                 for count in (0, calls):
-                    programs[name, count] = ([program, call, str(marks), str(count)], none)
+                    programs[name, count] = ([*program, call, str(marks), str(count)], none)
             seen = alternate(programs, 9)
             what = {"pop": "pop and push", "pick": "pick and push", "retell": "retell"}[call]
             for name in ("chain", "peer"):
@@ -164,7 +158,7 @@ def weave(folder):
         steps = {}
         programs = {}
         for count in (0, passes):
-            words = [WEAVE, str(colours), str(count)]
+            words = [MEASURE, "weave", str(colours), str(count)]
             steps[count] = int(subprocess.run(words, capture_output=True, check=True).stdout.split()[0])
             programs[count] = (words, none)
         seen = alternate(programs, 5)
@@ -179,7 +173,7 @@ def connections(folder):
     os.environ.update({"MALLOC_TRIM_THRESHOLD_": "1000000000", "MALLOC_TOP_PAD_": "67108864"})
     none = put(os.path.join(folder, "none"), b"")
     for piece, rounds in ((0, 2000), (4096, 2000), (7, 200), (1, 50)):
-        programs = {kind: ([CONN, kind, str(rounds), str(piece)], none) for kind in ("serve", "make")}
+        programs = {kind: ([MEASURE, "conn", kind, str(rounds), str(piece)], none) for kind in ("serve", "make")}
         seen = alternate(programs, 9)
         micros = (seen["serve"][0] - seen["make"][0]) / (rounds * 64) * 1e6
         pieces = f"pieces of {piece:,} bytes" if piece > 1 else "pieces of 1 byte" if piece == 1 else "one piece"
@@ -196,8 +190,8 @@ def texts(folder, peers):
     response = head + line * 40
     responses = put(os.path.join(folder, "responses"), response * (100_000_000 // len(response)))
     for what, given in (("script", script), ("transcript", responses)):
-        seen = alternate({"measure_text": ([TEXT, what], given), "peer": ([os.path.join(peers, what)], given)}, 7)
-        for name in ("measure_text", "peer"):
+        seen = alternate({"measure text": ([MEASURE, "text", what], given), "peer": ([os.path.join(peers, what)], given)}, 7)
+        for name in ("measure text", "peer"):
             size = os.path.getsize(given) / 1e6
             print(f"| a {what} of {size:.0f} MB | {name} | {seen[name][0] * 1000:.0f} ms |")
 
@@ -219,7 +213,7 @@ def events(folder, programs):
         runs = {}
         for name, program in programs.items():
             for count in (0, passes):
-                runs[name, count] = ([program, "1", str(shards), str(colours), str(count), "0", str(batch)], none)
+                runs[name, count] = ([*program, "1", str(shards), str(colours), str(count), "0", str(batch)], none)
         seen = alternate(runs, 7)
         for name in programs:
             nanos = (seen[name, passes][0] - seen[name, 0][0]) / (colours * passes) * 1e9
@@ -234,7 +228,7 @@ def wakes(folder, programs):
         calls = {}
         for passes in (0, 1000):
             counted = os.path.join(folder, "calls")
-            words = ["strace", "-f", "-c", "-e", "trace=futex", "-o", counted, program, "1", "8", "64", str(passes), "0", "10"]
+            words = ["strace", "-f", "-c", "-e", "trace=futex", "-o", counted, *program, "1", "8", "64", str(passes), "0", "10"]
             subprocess.run(words, stdout=subprocess.DEVNULL, check=True)
             lines = [line.split() for line in open(counted) if line.rstrip().endswith("futex")]
             calls[passes] = int(lines[0][3]) if lines else 0
@@ -250,7 +244,7 @@ def speedup(programs):
             for name, program in programs.items():
                 least = {}
                 for workers in (1, 2, 3, 4):
-                    words = [program, str(workers), str(shards), "64", str(passes), str(rounds), "10"]
+                    words = [*program, str(workers), str(shards), "64", str(passes), str(rounds), "10"]
                     least[workers] = min(clocked([words + ["stay"] * (way == "stay")]) for _ in range(3))
                 micros = least[1] / (64 * (passes + 1)) * 1e6
                 times = ", ".join(f"{least[1] / least[workers]:.2f}" for workers in (2, 3, 4))
@@ -259,7 +253,7 @@ def speedup(programs):
 
 def bound(program):
     """What the processors give programs that share nothing: how much faster four runs of one worker end at once than one by one."""
-    words = [program, "1", "1", "64", "1000", "62000", "10"]
+    words = [*program, "1", "1", "64", "1000", "62000", "10"]
     alone = min(clocked([words]) for _ in range(3))
     together = min(clocked([words] * 4) for _ in range(3))
     print(f"| four runs of one worker at once, events of 10 us | fleet | {4 * alone / together:.2f} times as fast as in turn |")
@@ -267,10 +261,10 @@ def bound(program):
 
 def fleet(folder, peer):
     """A fleet with a thread for each worker beside the same in plain Rust, which keeps no history and no trail."""
-    programs = {"fleet": FLEET, "peer": peer}
+    programs = {"fleet": [MEASURE, "fleet"], "peer": [peer]}
     events(folder, programs)
     wakes(folder, programs)
-    bound(FLEET)
+    bound(programs["fleet"])
     speedup(programs)
 
 
@@ -278,7 +272,7 @@ def main():
     words = argparse.ArgumentParser(description="Measures the answer command beside its peers.")
     words.add_argument("--runs", type=int, default=400, help="runs of each program over heads (default 400)")
     runs = words.parse_args().runs
-    for program in (SWS, LOOP, LOCK, CHAIN, WEAVE, FLEET, CONN, TEXT):
+    for program in (SWS, MEASURE):
         if not os.access(program, os.X_OK):
             sys.exit(f"measure: {program} isn't built")
     subprocess.run(["cargo", "build", "--release", "--offline", "--quiet"], cwd=PEER, check=True)

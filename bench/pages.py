@@ -33,7 +33,7 @@ BY_HAND = os.path.join(TOP, "docs", "promises")
 ROWS = os.path.join(BY_HAND, "mutants.txt")
 GENERATED = {"docs/BELIEF.md", "docs/DEFINITIONS.md", "docs/PROMISES.md"}
 # Crates of which the pages say no more than what they are.
-PLAIN = re.compile(r"(test|measure|run)_")
+PLAIN = re.compile(r"(test|run)_|measure$")
 
 
 def link(path):

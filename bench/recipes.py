@@ -7,8 +7,8 @@ It wants the program built (`./swsd --version`), openssl, curl and h2load. Each 
 certificate, and what keeps a program in the foreground and among its own files; where a recipe no longer has what is replaced, that is said. A
 program that isn't installed (nginx, haproxy, stunnel, caddy) is named, and left out. Each is asked as clients would: GET, HEAD, a range, 404, a
 file of 16 MiB, several requests on a connection, one after another and all at once, a page again, unchanged and changed, HTTP/2, what comes by
-plain HTTP; and under load while generations of `swsd` change all the time. Then two servers behind HAProxy, of which one is stopped under load
-and comes back. The status is 0 where all that was tried came out as expected, else 1. It takes some two minutes, with `--quick` less than one.
+plain HTTP; and under load while generations of `swsd` change all the time. Those that can name their clients to `swsd` are tried so too. Then two servers
+behind HAProxy, of which one is stopped under load and comes back. The status is 0 where all that was tried came out as expected, else 1. It takes some two minutes, with `--quick` less than one.
 """
 import argparse
 import functools
@@ -89,17 +89,17 @@ def nginx(place):
     return ["nginx", "-c", write(place.own, "nginx.conf", whole.encode()), "-p", place.own, "-e", f"{place.own}/error.log"]
 
 
-def haproxy(place):
+def haproxy(place, *more):
     recipe = fitted("tls/haproxy.cfg", [
-        ("127.0.0.1:8080", f"127.0.0.1:{place.server}"), ("bind :::443 v4v6", f"bind 127.0.0.1:{place.tls}"), ("bind :::80 v4v6", f"bind 127.0.0.1:{place.plain}"),
+        *more, ("127.0.0.1:8080", f"127.0.0.1:{place.server}"), ("bind :::443 v4v6", f"bind 127.0.0.1:{place.tls}"), ("bind :::80 v4v6", f"bind 127.0.0.1:{place.plain}"),
         ("/etc/haproxy/example.org.pem", place.both), FEWER, *AS_IT_IS,
     ])
     return ["haproxy", "-db", "-f", write(place.own, "haproxy.cfg", recipe.encode())]
 
 
-def stunnel(place):
+def stunnel(place, *more):
     recipe = fitted("tls/stunnel.conf", [
-        ("127.0.0.1:8080", f"127.0.0.1:{place.server}"), (":::443", f"127.0.0.1:{place.tls}"),
+        *more, ("127.0.0.1:8080", f"127.0.0.1:{place.server}"), (":::443", f"127.0.0.1:{place.tls}"),
         ("/etc/letsencrypt/live/example.org/fullchain.pem", place.certificate), ("/etc/letsencrypt/live/example.org/privkey.pem", place.key), *STUNNEL_AS_IT_IS,
     ])
     return ["stunnel", write(place.own, "stunnel.conf", recipe.encode())]
@@ -269,6 +269,30 @@ def front(name, is_quick):
         f"otherwise {', '.join(wrong) or 'none'}; the change after {client.told_after:.1f} s; {'; '.join(text for _, text in loads)} ({told})"
 
 
+# ---- whose a connection is
+
+# What a recipe says of how `swsd` learns its clients' addresses, and what is to stand there for that.
+NAMING = {
+    "haproxy": (haproxy, ("    server swsd 127.0.0.1:8080\n    # ", "    ")),
+    "stunnel": (stunnel, ("; protocol = proxy", "protocol = proxy")),
+}
+
+
+def naming(name):
+    """A recipe that names its clients by the PROXY protocol, and one of an address of its own: the line of the log has that."""
+    make, line = NAMING[name]
+    with site() as folder, room() as own:
+        make_site(folder)
+        with Server(folder, "--proxy", "127.0.0.1", "--log", output=os.path.join(own, "log")) as server:
+            with Front(name, lambda place: make(place, line), own, server) as it:
+                client = Client(it.place)
+                code = client.told("%{http_code}", "--interface", "127.0.0.2", client.url("a.txt"))
+            status, _ = server.end()
+            first = next(iter(server.log()), "")
+    is_right = status == 0 and code == "200" and first.startswith("127.0.0.2 ") and '"GET /a.txt HTTP/1.1" 200' in first
+    yield is_right, "the log names the client", f"{code}, {first}"
+
+
 # ---- several machines
 
 class Machine:
@@ -351,6 +375,7 @@ NEEDED = ("openssl", "curl", "h2load")
 def cases():
     """Each case by its name, with the programs that it needs."""
     fronts = {name: (lambda is_quick, name=name: front(name, is_quick), (name, *NEEDED)) for name in FRONTS}
+    fronts |= {f"{name}_naming": (lambda _, name=name: naming(name), (name, *NEEDED)) for name in NAMING}
     return fronts | {"several": (several, ("haproxy", *NEEDED))}
 
 

@@ -9,6 +9,7 @@ installed it is asked what can be compared too, and what both answer is compared
 """
 import itertools
 import os
+import random
 import shutil
 import socket
 import subprocess
@@ -100,8 +101,12 @@ GETSET e z|EXPIRE e 0|TTL e|PTTL e|EXPIRE e 5|PERSIST e|SETEX e 10 v|TTL e|SETEX
 SET e v EX 0|SET e v PX -1|SET e v EX|SET e v EX x|SET e v EX 1 PX 1|SET e v KEEPTTL EX 1|SET e v EX 9223372036854775807|SET e v PX 9223372036854775807
 EXPIRE e 9223372036854775807|PEXPIRE none 9223372036854775807|EXPIRE e -9223372036854775808|PEXPIRE e x|PEXPIRE none 5|EXPIRE|EXPIRE e|TTL|TTL a b|PTTL
 SET e v PXAT 1|GET e|EXISTS e|SET e v EXAT 4000000000|PEXPIREAT e 1|GET e|SET e v|EXPIREAT e 1|EXISTS e|SET e v PX 100000 XX|SET e v EXAT x|SHUTDOWN SAVE soon
-ECHO|ECHO a b|GET a b|SET a|QUIT
+ECHO|ECHO a b|GET a b|SET a|KEYS|KEYS a b|KEYS none*|QUIT
 """
+# Patterns of KEYS, whose lists are compared with Redis's as sets; and what further ones are made of, and the keys that they are tried at.
+PATTERNS = ["*", "**", "h?llo", "h*llo", "h[ae]llo", "h[^e]llo", "h[a-b]llo", "h[b-a]llo", "h\\?llo", "h\\*", "h[", "h[a", "h[a-", "h[^", "h[^]*", "h[]*",
+            "h[\\]a]*", "h[a-]llo", "h[--9]llo", "*l*o", "*a*a*a*b", "a" * 1024, "*[", "\\", "h\\", "?", "", "?*?*?"]
+SIGNS = "ab*?[]^-\\"
 BAD = [
     (b"*x\r\n", "invalid multibulk length"), (b"*1\r\n+PING\r\n", "expected '$', got '+'"), (b"*1\r\n$x\r\n", "invalid bulk length"),
     (b"*1\r\n$65537\r\n", "invalid bulk length"), (b"a" * 65537, "too big inline request"),
@@ -175,6 +180,24 @@ def told(port, sent):
         return b"".join(iter(lambda: client.recv(65536), b""))
 
 
+def try_patterns(port, other):
+    """KEYS, as Redis answers it but for the order."""
+    ours, theirs, chance = Client(port), Client(other), random.Random(7)
+    words = lambda most: "".join(chance.choice(SIGNS) for _ in range(chance.randint(1, most)))
+    keys = ["hello", "hallo", "hbllo", "hllo", "heello", "h?llo", "h*", "h]llo", "h-llo", "h5llo", "h", "h\\", "hla", "a" * 30 + "b"] + [words(4) for _ in range(300)]
+    for client in (ours, theirs):
+        expect("keys for patterns", client.ask("MSET", *[word for key in keys for word in (key, 1)]), "+OK")
+        expect("a key that goes", (client.ask("SET", "hgone", 1, "PX", 1), time.sleep(0.05))[0], "+OK")
+    for pattern in PATTERNS + [words(7) for _ in range(3000)]:
+        got, want = ours.ask("KEYS", pattern), theirs.ask("KEYS", pattern)
+        expect(f"KEYS {pattern[:40]}", sorted(got), sorted(want))
+    began = time.monotonic()
+    ours.ask("SET", "a" * 1024, 1)
+    expect("a pattern of many stars", ours.ask("KEYS", "*a" * 300 + "b"), [])
+    expect("its time", time.monotonic() - began < 1, True)
+    expect("a pattern that is too long", ours.ask("KEYS", "x" * 1025), "-ERR key exceeds maximum allowed size")
+
+
 def try_beside_redis(program):
     if not shutil.which("redis-server"):
         return print("redis-server isn't here: nothing is compared with it")
@@ -184,7 +207,7 @@ def try_beside_redis(program):
         free.close()
         words = ["redis-server", "--port", str(port), "--bind", "127.0.0.1", "--save", "", "--appendonly", "no", "--dir", folder]
         redis = subprocess.Popen(words, stdout=subprocess.DEVNULL, stderr=subprocess.DEVNULL)
-        ours = subprocess.Popen([program, "0", "1", "4"], stdout=subprocess.PIPE, text=True)
+        ours = subprocess.Popen([program, "0", "2", "4"], stdout=subprocess.PIPE, text=True)
         try:
             for _ in range(200):
                 with socket.socket() as tried:
@@ -193,10 +216,12 @@ def try_beside_redis(program):
                 time.sleep(0.05)
             requests = [line.split(" ") for line in SAME.strip().replace("\n", "|").split("|")]
             sent = b"".join(command(*request) for request in requests)
-            got, want = told(int(ours.stdout.readline().rsplit(":", 1)[1]), sent), told(port, sent)
+            own = int(ours.stdout.readline().rsplit(":", 1)[1])
+            got, want = told(own, sent), told(port, sent)
             for number, (one, other) in enumerate(zip(got.split(b"\r\n"), want.split(b"\r\n"))):
                 expect(f"line {number} of what Redis answers", one, other)
             expect("how many bytes Redis answers", len(got), len(want))
+            try_patterns(own, port)
         finally:
             redis.kill()
             ours.kill()

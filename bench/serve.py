@@ -4,7 +4,7 @@
     bench/serve.py [--runs N] [--connections N] [--requests N] [--at-once N] [--in-flight N,..] [--sizes BYTES,..] [--workers N,..]
                    [--lone N] [--idle N] [--log] [--server CPUS] [--client CPUS] [--only WORD] [--program FILE] [--daemon FILE] [--calls]
 
-It wants the program (`./sws`, or --program) or `swsd` (`./swsd --version`, or --daemon), measure_net (`rt run` in crates/measure_net), and a C compiler for the
+It wants the program (`./sws`, or --program) or `swsd` (`./swsd --version`, or --daemon), `measure` (`rt run` in crates/measure), and a C compiler for the
 client; a server that isn't there is left out. Each server serves one folder to bench/load.c, which makes so many connections on this machine's loopback, so many
 of them at once, each with so many requests, one after another and 16 at a time; of a file of 64 KiB or more it makes fewer. `sws` with several workers is run in
 the shape that the documents advise (64 shards, cost 9) and in the default one, `swsd` with so many lanes of one worker that take connections. nginx is run in two
@@ -34,7 +34,7 @@ from typing import NamedTuple
 TOP = os.path.dirname(os.path.dirname(os.path.abspath(__file__)))
 SWS = os.path.join(TOP, "crates", "sws_main", "out", "sws_main")
 SWSD = os.path.join(TOP, "crates", "swsd", "out", "swsd")
-NET = os.path.join(TOP, "crates", "measure_net", "out", "measure_net")
+MEASURE = os.path.join(TOP, "crates", "measure", "out", "measure")
 LOAD = os.path.join(TOP, "bench", "load.c")
 
 NGINX = """
@@ -253,7 +253,7 @@ def sws(program, pinned, site, shape):
 def servers(folder, site, given, pinned, client, workers):
     """What is measured, by name: for each the forms that it is run in, functions that run it once."""
     def net(path, order):
-        return own(lambda port, connections: [*pinned, NET, site, str(port), str(connections)], client, path, order)
+        return own(lambda port, connections: [*pinned, MEASURE, "net", site, str(port), str(connections)], client, path, order)
 
     def swsd(count, words):
         def once(path, order):
@@ -282,7 +282,7 @@ def servers(folder, site, given, pinned, client, workers):
         return once
 
     named = {}
-    if os.access(NET, os.X_OK):
+    if os.access(MEASURE, os.X_OK):
         named["the same sockets without the runtime"] = [net]
     for shape in shapes(workers) if os.access(given.program, os.X_OK) else []:
         words = sws(given.program, pinned, site, shape)

@@ -25,13 +25,14 @@ LARGE = 32 << 20
 
 
 class Server:
-    """A server of the folder, at a port of the machine's choice where none is given; used as a context, it is stopped behind it."""
+    """A server of the folder, at a port of the machine's choice where none is given, with these words before the program's; used as a context, it is stopped
+    behind it."""
 
-    def __init__(self, folder, *words, address="127.0.0.1", port=0, preexec=None, program=None, output=None):
+    def __init__(self, folder, *words, address="127.0.0.1", port=0, preexec=None, program=None, output=None, before=()):
         self.room = tempfile.mkdtemp(prefix="swsd-")
         os.chmod(self.room, 0o755)  # a server that runs as somebody else looks for the stop file there too
         self.stop_file = os.path.join(self.room, "stop")
-        words = [program or SWSD, folder, "--listen", f"{address}:{port}", "--stop-file", self.stop_file, *words]
+        words = [*before, program or SWSD, folder, "--listen", f"{address}:{port}", "--stop-file", self.stop_file, *words]
         self.said = open(os.path.join(self.room, "said"), "w+")
         self.output = output
         out = open(output, "wb") if output else subprocess.PIPE

@@ -1,4 +1,4 @@
-//! `fleet WORKERS SHARDS COLOURS PASSES ROUNDS BATCH`: what `measure_fleet` does in plain Rust, as a peer to measure a fleet by.
+//! `fleet WORKERS SHARDS COLOURS PASSES ROUNDS BATCH`: what `measure fleet` does in plain Rust, as a peer to measure a fleet by.
 //!
 //! A std mutex stands round each shard, and one round the chain of each core; a colour has a deque of events. Workers take
 //! batches, and a worker that finds nothing in its chain steals whole colours that are worth more than a steal costs. It keeps no

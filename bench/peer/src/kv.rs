@@ -1,4 +1,4 @@
-//! `kv WORKERS MESSAGES ROUNDS HOW [out]`: what `measure_kv` does in plain Rust, as a peer to measure it by.
+//! `kv WORKERS MESSAGES ROUNDS HOW [out]`: what `measure kv` does in plain Rust, as a peer to measure it by.
 //!
 //! HOW is `one`, a std mutex round one `HashMap`, or `sharded`, 64 such maps by the key's remainder. Each of 64 clients has so many
 //! messages, every other one a put, and a thread takes a message of each of its clients in turn. The rounds of a message are computed

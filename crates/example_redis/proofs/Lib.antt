@@ -3,6 +3,7 @@ mod VerbLemmas
 mod ReplyLemmas
 mod SavedLemmas
 mod TimeLemmas
+mod GlobLemmas
 mod NumberLemmas
 mod AskingLemmas
 mod PlanLemmas

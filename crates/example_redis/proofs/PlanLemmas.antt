@@ -21,15 +21,14 @@ use Rattle.example_redis.specs.declared.reply.Reply.{Reply}
 use Rattle.example_redis.specs.declared.reply.Reply.TheVariants as reply
 use Rattle.example_redis.specs.declared.request.Question.TheVariants as question
 use Rattle.example_redis.specs.declared.request.Request.{Request}
-use Rattle.example_redis.specs.declared.request.Sweep.{Sweep}
 use Rattle.example_redis.specs.declared.request.Sweep.TheVariants as sweep
 use Rattle.example_redis.specs.declared.verb.Verb.{Verb}
 use Rattle.example_redis.specs.declared.verb.Verb.TheVariants as verb
-use Rattle.example_redis.specs.Asking.{Plan, Cell, Several, Answer, Ends, asks_in, asks_of_all, asks_of_keys, asks_of_pairs, bare, cell_of, hash_of, have_long_key, is_flush, options_from, no_options, plan_at, plan_at_all, plan_in, plan_of_name, plan_of_one, plan_to_expire, plan_to_last, plan_to_set_for, plan_to_set_timed, term_said, plan_of_several, plan_of_verb, plan_of_words, wants_several, plan_to_add, plan_to_set, plan_to_subtract, with_key, with_more, with_value}
+use Rattle.example_redis.specs.Asking.{Plan, Cell, Several, Answer, Ends, asks_in, asks_of_all, asks_of_keys, asks_of_pairs, bare, cell_of, hash_of, have_long_key, is_flush, options_from, no_options, plan_at, plan_at_all, plan_in, plan_of_name, plan_of_one, plan_to_expire, plan_to_last, plan_to_list, plan_to_set_for, plan_to_set_timed, term_said, plan_of_several, plan_of_verb, plan_of_words, wants_several, plan_to_add, plan_to_set, plan_to_subtract, with_key, with_more, with_value}
 use Rattle.example_redis.specs.Lives.{length_of}
 use Rattle.example_redis.specs.Numbers.{number_of}
 use Rattle.example_redis.specs.Replies.{error}
-use Rattle.example_redis.specs.Values.{Deed, Adds, Deletes, Looks, Of, All, Wish}
+use Rattle.example_redis.specs.Values.{Deed, Adds, Deletes, Looks, Of, All, Lists, Wish}
 use Rattle.example_redis.specs.Verbs.{verb_of}
 
 abbrev Reaches : Plan → Type 0
@@ -137,20 +136,26 @@ pairs_there [] = tt
 pairs_there (key ∷ []) = tt
 pairs_there (key ∷ value ∷ words) = (low key, pairs_there words)
 
-range_there : (sweep : Sweep) (from count : ℕ) → from + count ≤ CELLS → Are (map (λ cell. (cell, All sweep)) (range_with_len from count))
-range_there sweep from zero fits = tt
-range_there sweep from (suc count) fits = (omega (arith, fits), range_there sweep (from + 1) count (omega (arith, fits)))
+range_there : (wish : Wish) (from count : ℕ) → from + count ≤ CELLS → Are (map (λ cell. (cell, wish)) (range_with_len from count))
+range_there wish from zero fits = tt
+range_there wish from (suc count) fits = (omega (arith, fits), range_there wish (from + 1) count (omega (arith, fits)))
 
 at_all_there : (asks : List (ℕ × Wish)) (reply : Reply) → Are asks → Reaches (plan_at_all asks reply)
 at_all_there asks reply are = either (Answer (error (codes "key exceeds maximum allowed size"))) (Several asks reply) (have_long_key asks) tt are
+
+list_there : (words : List (List ℕ)) → Reaches (plan_to_list words)
+list_there [] = tt
+list_there (pattern ∷ []) = at_all_there (asks_of_all (Lists pattern)) reply.Names (range_there (Lists pattern) 0 CELLS (omega arith))
+list_there (pattern ∷ word ∷ words) = tt
 
 several_there : (one : Verb) (words : List (List ℕ)) → Reaches (plan_of_several one words)
 several_there verb.MGet words = at_all_there (asks_of_keys (Looks question.Value) words) reply.Items (keys_there (Looks question.Value) words)
 several_there verb.Del words = at_all_there (asks_of_keys Deletes words) reply.Total (keys_there Deletes words)
 several_there verb.Exists words = at_all_there (asks_of_keys (Looks question.IsThere) words) reply.Total (keys_there (Looks question.IsThere) words)
 several_there verb.MSet words = at_all_there (asks_of_pairs words) reply.Okay (pairs_there words)
-several_there verb.DbSize words = at_all_there (asks_of_all sweep.Count) reply.Total (range_there sweep.Count 0 CELLS (omega arith))
-several_there verb.FlushAll words = either (plan_at_all (asks_of_all sweep.Clear) reply.Okay) (Answer (error (codes "syntax error"))) (is_flush words) (at_all_there (asks_of_all sweep.Clear) reply.Okay (range_there sweep.Clear 0 CELLS (omega arith))) tt
+several_there verb.DbSize words = at_all_there (asks_of_all (All sweep.Count)) reply.Total (range_there (All sweep.Count) 0 CELLS (omega arith))
+several_there verb.Keys words = list_there words
+several_there verb.FlushAll words = either (plan_at_all (asks_of_all (All sweep.Clear)) reply.Okay) (Answer (error (codes "syntax error"))) (is_flush words) (at_all_there (asks_of_all (All sweep.Clear)) reply.Okay (range_there (All sweep.Clear) 0 CELLS (omega arith))) tt
 several_there one words = tt
 
 verb_there : (one : Verb) (words : List (List ℕ)) → Reaches (plan_of_verb one words)

@@ -23,7 +23,6 @@ use Rattle.example_redis.specs.declared.reply.Reply.TheVariants as reply
 use Rattle.example_redis.specs.declared.request.How.{How}
 use Rattle.example_redis.specs.declared.request.Question.TheVariants as question
 use Rattle.example_redis.specs.declared.request.Request.{Request}
-use Rattle.example_redis.specs.declared.request.Sweep.{Sweep}
 use Rattle.example_redis.specs.declared.request.Sweep.TheVariants as sweep
 use Rattle.example_redis.specs.declared.request.Timed.{Timed}
 use Rattle.example_redis.specs.declared.request.Tells.TheVariants as tells
@@ -35,7 +34,7 @@ use Rattle.example_redis.specs.Frames.{Saying, Says, Errs, Stops, heard_of}
 use Rattle.example_redis.specs.Lives.{length_of, term_of}
 use Rattle.example_redis.specs.Numbers.{number_of}
 use Rattle.example_redis.specs.Replies.{bulk, error, info, shown_byte, shown_with, text_of, text_of_fault}
-use Rattle.example_redis.specs.Values.{Deed, Looks, Sets, Deletes, Adds, Appends, Expires, Persists, Of, All, Wish, okay, wish_of}
+use Rattle.example_redis.specs.Values.{Deed, Looks, Sets, Deletes, Adds, Appends, Expires, Persists, Of, All, Lists, Wish, okay, wish_of}
 use Rattle.example_redis.specs.Verbs.{name_of, verb_of}
 
 -- a cell is asked this; or several cells are, in order, and the reply is this one, whose parts are
@@ -273,6 +272,7 @@ wants_several verb.MSet count = nat_lt 0 count && count % 2 == 0
 wants_several verb.Del count = nat_lt 1 count
 wants_several verb.Exists count = nat_lt 1 count
 wants_several verb.DbSize count = count == 0
+wants_several verb.Keys count = count == 1
 wants_several verb.FlushAll count = true
 wants_several verb count = false
 
@@ -294,13 +294,14 @@ asks_of_pairs (key ∷ value ∷ words) =
     (cell_of key, Of key (Sets value plain)) ∷ asks_of_pairs words
 
 -- all cells are asked the same
-abbrev pub asks_of_all : Sweep → List (ℕ × Wish)
-asks_of_all sweep = map (λ cell. (cell, All sweep)) (range_with_len 0 CELLS)
+abbrev pub asks_of_all : Wish → List (ℕ × Wish)
+asks_of_all wish = map (λ cell. (cell, wish)) (range_with_len 0 CELLS)
 
--- a key is too long
+-- a key is too long, or a pattern
 abbrev pub has_long_key : Wish → Bool
 has_long_key (Of key deed) = nat_lt MOST_KEY (length key)
 has_long_key (All sweep) = false
+has_long_key (Lists pattern) = nat_lt MOST_KEY (length pattern)
 
 abbrev pub have_long_key : List (ℕ × Wish) → Bool
 have_long_key [] = false
@@ -310,6 +311,11 @@ have_long_key (ask ∷ asks) = if has_long_key ask.1 then true else have_long_ke
 abbrev pub plan_at_all : List (ℕ × Wish) → Reply → Plan
 plan_at_all asks reply = if have_long_key asks
     then Answer (error (codes "key exceeds maximum allowed size")) else Several asks reply
+
+-- KEYS takes one word
+abbrev pub plan_to_list : List (List ℕ) → Plan
+plan_to_list (pattern ∷ []) = plan_at_all (asks_of_all (Lists pattern)) reply.Names
+plan_to_list words = wrong_number verb.Keys
 
 -- FLUSHALL takes one word at most, SYNC or ASYNC, which makes no difference
 abbrev pub is_flush : List (List ℕ) → Bool
@@ -324,9 +330,10 @@ plan_of_several verb.Del words = plan_at_all (asks_of_keys Deletes words) reply.
 plan_of_several verb.Exists words =
     plan_at_all (asks_of_keys (Looks question.IsThere) words) reply.Total
 plan_of_several verb.MSet words = plan_at_all (asks_of_pairs words) reply.Okay
-plan_of_several verb.DbSize words = plan_at_all (asks_of_all sweep.Count) reply.Total
+plan_of_several verb.DbSize words = plan_at_all (asks_of_all (All sweep.Count)) reply.Total
+plan_of_several verb.Keys words = plan_to_list words
 plan_of_several verb.FlushAll words = if is_flush words
-    then plan_at_all (asks_of_all sweep.Clear) reply.Okay
+    then plan_at_all (asks_of_all (All sweep.Clear)) reply.Okay
     else Answer (error (codes "syntax error"))
 plan_of_several verb words = wrong_number verb
 

@@ -4,6 +4,8 @@ pub mod Verbs
 pub mod Replies
 pub mod Lives
 pub mod Numbers
+pub mod Globs
+pub mod Globbing
 pub mod Values
 pub mod Asking
 pub mod Stored

@@ -1,6 +1,6 @@
 -- How long the value of a key is there. Moments are in milliseconds since 1970.
 -- The commands as in https://redis.io/docs/latest/commands/expire/ and /set/
-use Rattle.std.specs.Prelude.{◌+◌, ◌*◌, ◌^◌, pos, ℕ, ℤ, Vec, List, Bool, false, Option, Some, None, Result, Ok, Err, int_lt, nat_le, nat_lt, option_and_then, option_map, unsigned_abs, if◌then◌else◌}
+use Rattle.std.specs.Prelude.{◌+◌, ◌*◌, ◌^◌, pos, ℕ, ℤ, List, Bool, false, Option, Some, None, Result, Ok, Err, int_lt, nat_le, nat_lt, option_and_then, option_map, unsigned_abs, if◌then◌else◌}
 use Rattle.example_redis.specs.declared.life.Clock.{Clock}
 use Rattle.example_redis.specs.declared.life.Clock.TheVariants.{Seconds, Millis, UnixSeconds, UnixMillis}
 use Rattle.example_redis.specs.declared.life.Kept.{Kept}

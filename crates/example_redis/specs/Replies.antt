@@ -1,5 +1,5 @@
 -- What a reply is in bytes: RESP, "RESP protocol description", version 2.
-use Rattle.std.specs.Prelude.{◌==◌, ◌||◌, ℕ, ℤ, List, [], ◌∷◌, ◌++◌, codes, flat_map, length, pos, if◌then◌else◌}
+use Rattle.std.specs.Prelude.{◌==◌, ◌||◌, ℕ, ℤ, List, [], ◌∷◌, ◌++◌, codes, flat_map, length, map, pos, if◌then◌else◌}
 use Rattle.std.specs.Fmt.{decimal, signed_decimal}
 use Rattle.std.specs.List.{sum_by}
 use Rattle.example_redis.specs.declared.frame.Fault.{Fault}
@@ -52,6 +52,10 @@ abbrev pub info : List ℕ
 info = codes "# Server\r\nredis_mode:standalone\r\n# Persistence\r\nloading:0\r\n"
     ++ codes "# Replication\r\nrole:master\r\n# Cluster\r\ncluster_enabled:0\r\n"
 
+-- a list of values
+abbrev pub bulks : List (List ℕ) → List ℕ
+bulks values = codes "*" ++ decimal (length values) ++ codes "\r\n" ++ flat_map bulk values
+
 -- a reply that has no parts
 abbrev pub shown_reply : Reply → List ℕ
 shown_reply reply.Silence = []
@@ -63,9 +67,11 @@ shown_reply reply.NoItems = codes "*0\r\n"
 shown_reply reply.Info = bulk info
 shown_reply reply.Items = codes "*0\r\n"
 shown_reply reply.Total = codes ":0\r\n"
+shown_reply reply.Names = codes "*0\r\n"
 shown_reply (reply.Count count) = integer (pos count)
 shown_reply (reply.Number number) = integer number
 shown_reply (reply.Value value) = bulk value.items
+shown_reply (reply.Keys keys) = bulks (map (λ key. key.items) keys.items)
 shown_reply (reply.Refused refusal) = error (text_of refusal)
 
 -- replies as a list, with how many they are in front
@@ -81,8 +87,18 @@ count_in reply = 0
 abbrev pub total_of : List Reply → List ℕ
 total_of parts = integer (pos (sum_by count_in parts))
 
+-- the keys that a reply lists: none, if it is no list of keys
+abbrev pub keys_in : Reply → List (List ℕ)
+keys_in (reply.Keys keys) = map (λ key. key.items) keys.items
+keys_in reply = []
+
+-- the keys of all replies, in order
+abbrev pub names_of : List Reply → List ℕ
+names_of parts = bulks (flat_map keys_in parts)
+
 -- a reply with its parts, where it has any: what several cells reply
 abbrev pub shown_with : Reply → List Reply → List ℕ
 shown_with reply.Items parts = list_of parts
 shown_with reply.Total parts = total_of parts
+shown_with reply.Names parts = names_of parts
 shown_with reply parts = shown_reply reply

@@ -1,5 +1,5 @@
 -- What the store is, as a service.
-use Rattle.std.specs.Prelude.{◌≡◌, ◌≢◌, ℕ, Vec, List, [], Option, filter, length, max, not}
+use Rattle.std.specs.Prelude.{◌≡◌, ◌≢◌, ℕ, Vec, List, [], ◌∷◌, Option, filter, flat_map, if◌then◌else◌, length, max, not}
 use Rattle.std.specs.BTreeMap.{BTreeMap, get_by}
 use Rattle.std.specs.Cmp.Lexicographic.{slice_cmp}
 use Rattle.std.specs.Global.{Global}
@@ -11,9 +11,10 @@ use Rattle.example_redis.specs.declared.request.Sweep.{Sweep}
 use Rattle.example_redis.specs.declared.request.Sweep.TheVariants as sweep
 use Rattle.example_redis.specs.declared.request.Timed.{Timed}
 use Rattle.example_redis.specs.declared.store.Cell.{Cell}
+use Rattle.example_redis.specs.Globs.{Part, matches, parts_of}
 use Rattle.example_redis.specs.Lives.{Entry, entry_in, is_over, there_at}
-use Rattle.example_redis.specs.Replies.{shown_reply}
-use Rattle.example_redis.specs.Values.{Deed, IsCounted, Of, All, Wish, turn_of, wish_of}
+use Rattle.example_redis.specs.Replies.{keys_in, shown_reply}
+use Rattle.example_redis.specs.Values.{Deed, IsCounted, Of, All, Lists, Wish, turn_of, wish_of}
 
 -- what a cell has under keys
 abbrev pub Store : Type 0
@@ -51,10 +52,25 @@ IsSwept now sweep.Count before after answer =
     (after ≡ before) × (answer ≡ Count (length (entries_there now before.entries)))
 IsSwept now sweep.Clear before after answer = (after.entries ≡ []) × (answer ≡ Okay)
 
+-- a key, if it has a value at a moment and the parts of a pattern match it
+abbrev pub name_there : ℕ → List Part → Vec ℕ Global → Kept → List (List ℕ)
+name_there now parts key kept = if is_over now kept.until then []
+    else if matches parts key.items then key.items ∷ [] else []
+
+-- the keys of a cell that have a value at a moment and that the parts of a pattern match
+abbrev pub names_there : ℕ → List Part → List (Vec ℕ Global × Kept) → List (List ℕ)
+names_there now parts entries = flat_map (λ entry. name_there now parts entry.0 entry.1) entries
+
+-- KEYS, of one cell: its keys that a pattern matches are listed, and all stay
+abbrev pub IsListed : ℕ → List ℕ → Store → Store → Reply → Type 0
+IsListed now pattern before after answer =
+    (after ≡ before) × (keys_in answer ≡ names_there now (parts_of pattern) before.entries)
+
 -- what is wished of a cell at a moment is done
 abbrev pub Grants : ℕ → Wish → Store → Store → Reply → Type 0
 Grants now (Of key deed) before after answer = IsServed now key deed before after answer
 Grants now (All sweep) before after answer = IsSwept now sweep before after answer
+Grants now (Lists pattern) before after answer = IsListed now pattern before after answer
 
 -- A step of a cell: at the latest moment that it was told, so its time never goes back.
 pub record IsStep (timed : Timed) (before after : Cell) (answer : Reply) : Type 0 where

@@ -49,14 +49,17 @@ abbrev pub deed_of : Action → Deed
 deed_of (Look question) = Looks question
 deed_of (Make change) = deed_of_change change
 
--- what is asked of a cell: something is done with the value of a key, or with all its keys
+-- what is asked of a cell: something is done with the value of a key, or with all its keys, or those
+-- are listed that a pattern matches
 pub data Wish : Type 0 where
   Of : List ℕ → Deed → Wish
   All : Sweep → Wish
+  Lists : List ℕ → Wish
 
 abbrev pub wish_of : Request → Wish
 wish_of (request.Of key action) = Of key.items (deed_of action)
 wish_of (request.All sweep) = All sweep
+wish_of (request.List pattern) = Lists pattern.items
 
 -- the value then, where there is one, and the reply
 pub record Turn : Type 0 where

@@ -32,6 +32,7 @@ name_of verb.Persist = codes "persist"
 name_of verb.MGet = codes "mget"
 name_of verb.MSet = codes "mset"
 name_of verb.DbSize = codes "dbsize"
+name_of verb.Keys = codes "keys"
 name_of verb.FlushAll = codes "flushall"
 name_of verb.Info = codes "info"
 name_of verb.ShutDown = codes "shutdown"
@@ -43,7 +44,7 @@ verbs = verb.Ping ∷ verb.Echo ∷ verb.Get ∷ verb.Set ∷ verb.SetNx ∷ ver
     ∷ verb.PSetEx ∷ verb.Del ∷ verb.Exists ∷ verb.Incr ∷ verb.Decr ∷ verb.IncrBy ∷ verb.DecrBy
     ∷ verb.Append ∷ verb.StrLen ∷ verb.Expire ∷ verb.PExpire ∷ verb.ExpireAt ∷ verb.PExpireAt
     ∷ verb.Ttl ∷ verb.PTtl ∷ verb.Persist ∷ verb.MGet ∷ verb.MSet ∷ verb.DbSize
-    ∷ verb.FlushAll ∷ verb.Info ∷ verb.ShutDown ∷ verb.Command ∷ verb.Quit ∷ []
+    ∷ verb.Keys ∷ verb.FlushAll ∷ verb.Info ∷ verb.ShutDown ∷ verb.Command ∷ verb.Quit ∷ []
 
 -- the first command whose name this is, in letters of any case
 abbrev pub verb_among : List ℕ → List Verb → Option Verb

@@ -11,16 +11,17 @@
 //!
 //! It knows PING, ECHO, GET, SET (with NX, XX, GET, EX, PX, EXAT, PXAT and KEEPTTL), SETNX, SETEX,
 //! PSETEX, GETSET, DEL, EXISTS, MGET, MSET, INCR, DECR, INCRBY, DECRBY, APPEND, STRLEN, EXPIRE,
-//! PEXPIRE, EXPIREAT, PEXPIREAT, TTL, PTTL, PERSIST, DBSIZE, FLUSHALL, INFO, COMMAND (which lists
-//! none), SHUTDOWN and QUIT, as arrays of bulk strings or as lines. A key has 1,024 bytes at most, a
+//! PEXPIRE, EXPIREAT, PEXPIREAT, TTL, PTTL, PERSIST, DBSIZE, KEYS, FLUSHALL, INFO, COMMAND (which
+//! lists none), SHUTDOWN and QUIT, as arrays of bulk strings or as lines. A key has 1,024 bytes at most, a
 //! value 65,536, a request 262,144 and 1,024 words. With a file it begins with what that has, and is
 //! written there when it ends.
 //!
 //! It is an example of a service, to copy: `frame.rt` says where a request ends, `asking.rt` what
 //! it asks and of which cell, `value.rt` what becomes of the value of a key, `life.rt` how long it is
-//! there, `reply.rt` how a reply is written, and `store.rt` puts these together. A key is in the cell
-//! of its hash, so all processors serve keys at once, and no handler takes a lock. Each request tells
-//! its cells the time, and a value whose deadline has come isn't there.
+//! there, `reply.rt` how a reply is written, `glob.rt` which keys a pattern matches, and `store.rt`
+//! puts these together. A key is in the cell of its hash, so all processors serve keys at once, and
+//! no handler takes a lock. Each request tells its cells the time, and a value whose deadline has
+//! come isn't there.
 //!
 //! The statuses are 2 for wrong words, 4 for a file that is torn or damaged, 5 for one that can't be
 //! read or written, 6 where nobody can listen at the port or the network failed,
@@ -29,6 +30,7 @@
 
 mod asking;
 mod frame;
+mod glob;
 mod heard;
 mod keeping;
 mod laws;

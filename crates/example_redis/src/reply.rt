@@ -1,7 +1,7 @@
 //! What is replied.
 ghost use Rattle.std.specs.Fmt.{decimal};
-ghost use Rattle.std.specs.Prelude.{◌≡◌, ◌++◌, OnOk, codes, pos};
-ghost use Rattle.example_redis.specs.Replies.{bulk, count_in, error, info, integer, list_of, shown_byte, shown_reply, shown_with, text_of, text_of_fault, total_of};
+ghost use Rattle.std.specs.Prelude.{◌≡◌, ◌++◌, OnOk, codes, flat_map, length, map, pos};
+ghost use Rattle.example_redis.specs.Replies.{bulk, bulks, count_in, error, info, integer, keys_in, list_of, names_of, shown_byte, shown_reply, shown_with, text_of, text_of_fault, total_of};
 ghost use Rattle.example_redis.specs.Verbs.{name_of};
 ghost use Rattle.example_redis.specs.declared.frame.Fault.TheVariants.{NoWord};
 
@@ -73,10 +73,16 @@ pub enum Reply {
     /// The sum of its parts.
     Total,
 
+    /// The list of the keys that its parts list.
+    Names,
+
     /// How many there are.
     Count(usize),
     Number(i64),
     Value(Vec<u8>),
+
+    /// These keys.
+    Keys(Vec<Vec<u8>>),
     Refused(Refusal),
 }
 
@@ -212,6 +218,26 @@ fn write_error(refusal: &Refusal, out: &mut Vec<u8>) -> Result<(), Memory>
     put(out, b"\r\n")
 }
 
+/// Puts keys behind others, each as a value.
+fn write_each(keys: &[Vec<u8>], out: &mut Vec<u8>) -> Result<(), Memory>
+    ensures { OnOk result (out.new.items
+        ≡ out.old.items ++ flat_map bulk (map (λ key. key.items) keys.now)) }
+{
+    'each: for key in keys {
+        write_value(key.as_slice(), out)?;
+    }
+    Ok(())
+}
+
+/// Puts a list of keys behind others.
+fn write_keys(keys: &[Vec<u8>], out: &mut Vec<u8>) -> Result<(), Memory>
+    ensures { OnOk result (out.new.items
+        ≡ out.old.items ++ bulks (map (λ key. key.items) keys.now)) }
+{
+    begin_list(keys.len(), out)?;
+    write_each(keys, out)
+}
+
 /// Puts a reply behind others, which has no parts.
 fn write_one(reply: &Reply, out: &mut Vec<u8>) -> Result<(), Memory>
     ensures { OnOk result (out.new.items ≡ out.old.items ++ shown_reply reply.now) }
@@ -221,12 +247,13 @@ fn write_one(reply: &Reply, out: &mut Vec<u8>) -> Result<(), Memory>
         Reply::Okay => put(out, b"+OK\r\n"),
         Reply::Pong => put(out, b"+PONG\r\n"),
         Reply::Nil => put(out, b"$-1\r\n"),
-        Reply::NoItems | Reply::Items => put(out, b"*0\r\n"),
+        Reply::NoItems | Reply::Items | Reply::Names => put(out, b"*0\r\n"),
         Reply::Total => put(out, b":0\r\n"),
         Reply::Info => write_info(out),
         Reply::Count(count) => write_count(*count, out),
         Reply::Number(number) => write_number(*number, out),
         Reply::Value(value) => write_value(value.as_slice(), out),
+        Reply::Keys(keys) => write_keys(keys.as_slice(), out),
         Reply::Refused(refusal) => write_error(refusal, out),
     }
 }
@@ -277,6 +304,59 @@ fn write_total(parts: &[Reply], out: &mut Vec<u8>) -> Result<(), Memory>
     put(out, b"\r\n")
 }
 
+/// How many keys a reply lists.
+fn listed(reply: &Reply) -> usize
+    ensures { result ≡ length (keys_in reply.now) }
+{
+    match reply {
+        Reply::Keys(keys) => keys.len(),
+        _ => 0,
+    }
+}
+
+/// How many keys replies list.
+fn count_keys(parts: &[Reply]) -> u128
+    ensures { result ≡ length (flat_map keys_in parts.now) }
+{
+    let mut total: u128 = 0;
+    'each: for part in parts {
+        total += listed(part) as u128;
+    }
+    total
+}
+
+/// Puts the keys that a reply lists behind others, each as a value.
+fn write_listed(reply: &Reply, out: &mut Vec<u8>) -> Result<(), Memory>
+    ensures { OnOk result (out.new.items ≡ out.old.items ++ flat_map bulk (keys_in reply.now)) }
+{
+    match reply {
+        Reply::Keys(keys) => write_each(keys.as_slice(), out),
+        _ => Ok(()),
+    }
+}
+
+/// Puts the keys that replies list behind others, each as a value.
+fn write_all_listed(parts: &[Reply], out: &mut Vec<u8>) -> Result<(), Memory>
+    ensures { OnOk result (out.new.items
+        ≡ out.old.items ++ flat_map bulk (flat_map keys_in parts.now)) }
+{
+    'each: for part in parts {
+        write_listed(part, out)?;
+    }
+    Ok(())
+}
+
+/// Puts the list of the keys that replies list behind others.
+fn write_names(parts: &[Reply], out: &mut Vec<u8>) -> Result<(), Memory>
+    ensures { OnOk result (out.new.items ≡ out.old.items ++ names_of parts.now) }
+{
+    let mut digits = Buffer::new();
+    put(out, b"*")?;
+    put(out, digits.format(count_keys(parts)).as_bytes())?;
+    put(out, b"\r\n")?;
+    write_all_listed(parts, out)
+}
+
 /// Puts a reply behind others, with its parts where it has any.
 ///
 /// # Errors
@@ -288,6 +368,7 @@ pub fn write(reply: &Reply, parts: &[Reply], out: &mut Vec<u8>) -> Result<(), Me
     match reply {
         Reply::Items => write_list(parts, out),
         Reply::Total => write_total(parts, out),
+        Reply::Names => write_names(parts, out),
         _ => write_one(reply, out),
     }
 }

@@ -110,6 +110,9 @@ pub enum Request {
 
     /// Something is done with all its keys.
     All(Sweep),
+
+    /// Its keys are listed that this pattern matches.
+    List(Vec<u8>),
 }
 
 /// What a cell is asked, and when that was.

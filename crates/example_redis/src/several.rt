@@ -1,7 +1,7 @@
 //! What commands ask of several cells.
 ghost use Rattle.std.specs.Prelude.{◌≡◌, IfOk, map};
-ghost use Rattle.example_redis.specs.Asking.{asks_in, asks_of_all, asks_of_keys, asks_of_pairs, cell_of, deed_of_each, has_long_key, have_long_key, is_flush, plan_at_all, plan_in, plan_of_several, wants_several};
-ghost use Rattle.example_redis.specs.Values.{Of, deed_of, wish_of};
+ghost use Rattle.example_redis.specs.Asking.{asks_in, asks_of_all, asks_of_keys, asks_of_pairs, cell_of, deed_of_each, has_long_key, have_long_key, is_flush, plan_at_all, plan_in, plan_of_several, plan_to_list, wants_several};
+ghost use Rattle.example_redis.specs.Values.{All, Lists, Of, deed_of, wish_of};
 ghost use Rattle.example_redis.specs.declared.reply.Reply.TheVariants as reply;
 
 use crate::asking::{Ask, cell_of_key, refuse, wrong};
@@ -26,6 +26,7 @@ pub fn is_several(verb: Verb, count: usize) -> bool
         Verb::MSet => count > 0 && count % 2 == 0,
         Verb::Del | Verb::Exists => count > 1,
         Verb::DbSize => count == 0,
+        Verb::Keys => count == 1,
         Verb::FlushAll => true,
         _ => false,
     }
@@ -82,7 +83,7 @@ fn ask_pairs(alloc: Global, words: Vec<Vec<u8>>) -> Result<Asks, Memory>
 
 /// All cells are asked the same.
 fn ask_all(alloc: Global, sweep: Sweep) -> Result<Asks, Memory>
-    ensures { IfOk result (λ asks. asks_in asks.items ≡ asks_of_all sweep) }
+    ensures { IfOk result (λ asks. asks_in asks.items ≡ asks_of_all (All sweep)) }
 {
     let mut asks = Vec::new(alloc);
     'cells: for cell in 0..CELLS {
@@ -91,13 +92,26 @@ fn ask_all(alloc: Global, sweep: Sweep) -> Result<Asks, Memory>
     Ok(asks)
 }
 
-/// Whether a key is too long.
+/// All cells are asked for the keys that a pattern matches.
+fn ask_to_list(alloc: Global, pattern: &[u8]) -> Result<Asks, Memory>
+    ensures { IfOk result (λ asks. asks_in asks.items ≡ asks_of_all (Lists pattern.now)) }
+{
+    let mut asks = Vec::new(alloc);
+    'cells: for cell in 0..CELLS {
+        let copy = Vec::from_slice(alloc, pattern)?;
+        asks.push((cell, Request::List(copy)))?;
+    }
+    Ok(asks)
+}
+
+/// Whether a key is too long, or a pattern.
 fn is_long(request: &Request) -> bool
     ensures { result ≡ has_long_key (wish_of request.now) }
 {
     match request {
         Request::Of(key, _) => key.len() > MOST_KEY,
         Request::All(_) => false,
+        Request::List(pattern) => pattern.len() > MOST_KEY,
     }
 }
 
@@ -156,9 +170,20 @@ fn ask_to_set_each(alloc: Global, words: Vec<Vec<u8>>) -> Result<Ask, Memory>
 
 /// All keys are asked.
 fn ask_cells(alloc: Global, sweep: Sweep, reply: Reply) -> Result<Ask, Memory>
-    ensures { IfOk result (λ asked. plan_in asked ≡ plan_at_all (asks_of_all sweep) reply) }
+    ensures { IfOk result (λ asked. plan_in asked ≡ plan_at_all (asks_of_all (All sweep)) reply) }
 {
     Ok(at_all(ask_all(alloc, sweep)?, reply))
+}
+
+/// Keys are listed, if one pattern says which.
+fn ask_names(alloc: Global, words: &[Vec<u8>]) -> Result<Ask, Memory>
+    ensures { IfOk result (λ asked. plan_in asked
+        ≡ plan_to_list (map (λ word. word.items) words.now)) }
+{
+    match words {
+        [pattern] => Ok(at_all(ask_to_list(alloc, pattern.as_slice())?, Reply::Names)),
+        _ => Ok(wrong(Verb::Keys)),
+    }
 }
 
 /// What a command asks that asks several cells.
@@ -176,6 +201,7 @@ pub fn ask_several(alloc: Global, verb: Verb, words: Vec<Vec<u8>>) -> Result<Ask
         Verb::Del => ask_each(alloc, verb, words, Reply::Total),
         Verb::Exists => ask_each(alloc, verb, words, Reply::Total),
         Verb::DbSize => ask_cells(alloc, Sweep::Count, Reply::Total),
+        Verb::Keys => ask_names(alloc, words.as_slice()),
         Verb::FlushAll if may_flush(words.as_slice()) => {
             ask_cells(alloc, Sweep::Clear, Reply::Okay)
         }

@@ -1,16 +1,18 @@
 //! The store, as a service.
-ghost use Rattle.std.specs.Prelude.{◌≡◌, IfOk, None, OnOk, [], codes, if◌then◌else◌, length, option_copied};
+ghost use Rattle.std.specs.Prelude.{◌≡◌, IfOk, None, OnOk, [], codes, ◌++◌, if◌then◌else◌, length, map, option_copied};
 ghost use Rattle.mely_net.specs.Lines.{IsWhose};
 ghost use Rattle.example_redis.specs.Asking.{AreAt, IsAsked, plan_in, plan_of, plan_timed, timed_asks};
 ghost use Rattle.example_redis.specs.Frames.{cut_of, cut_of-steady};
+ghost use Rattle.example_redis.specs.Globs.{part_of, parts_of};
 ghost use Rattle.example_redis.specs.Lives.{entry_in, there_at};
-ghost use Rattle.example_redis.specs.Replies.{error, shown_with};
-ghost use Rattle.example_redis.specs.Stored.{Grants, IsServed, IsStep, IsSwept, Puts, entries_there, entry_at, value_at};
+ghost use Rattle.example_redis.specs.Replies.{error, keys_in, shown_with};
+ghost use Rattle.example_redis.specs.Stored.{Grants, IsServed, IsStep, IsSwept, Puts, entries_there, entry_at, name_there, names_there, value_at};
 ghost use Rattle.example_redis.specs.Values.{Looks, deed_of, deed_of_change, wish_of};
 ghost use Rattle.example_redis.specs.declared.limits.TheConstants.{CELLS, LONGEST};
 
 use crate::asking::{Ask, ask};
 use crate::frame::cut;
+use crate::glob::{Part, is_match, read_parts};
 use crate::heard::{Heard, hear};
 use crate::life::{Kept, is_past};
 use crate::limits::{CELLS, LONGEST};
@@ -150,6 +152,53 @@ fn count_there(values: &Values, now: u64) -> usize
     count
 }
 
+/// A key is put behind others, where its value is there and a pattern matches it.
+fn add_name(
+    alloc: Global,
+    parts: &[Part],
+    now: u64,
+    key: &Vec<u8>,
+    kept: &Kept,
+    keys: &mut Vec<Vec<u8>>,
+) -> Result<(), Memory>
+    ensures { OnOk result (map (λ key. key.items) keys.new.items
+        ≡ map (λ key. key.items) keys.old.items
+        ++ name_there now (map part_of parts.now) key.now kept.now) }
+{
+    if is_past(now, kept.until) || !is_match(parts, key.as_slice()) {
+        return Ok(());
+    }
+    let copy = Vec::from_slice(alloc, key.as_slice())?;
+    keys.push(copy)?;
+    Ok(())
+}
+
+/// The keys that have a value whose time isn't over, and that the parts of a pattern match.
+fn list_parts(
+    alloc: Global,
+    values: &Values,
+    now: u64,
+    parts: &[Part],
+) -> Result<Vec<Vec<u8>>, Memory>
+    ensures { IfOk result (λ keys. map (λ key. key.items) keys.items
+        ≡ names_there now (map part_of parts.now) values.now.entries) }
+{
+    let mut keys = Vec::new(alloc);
+    'entries: for (key, kept) in values.iter() {
+        add_name(alloc, parts, now, key, kept, &mut keys)?;
+    }
+    Ok(keys)
+}
+
+/// The keys that have a value whose time isn't over, and that a pattern matches.
+fn list_there(alloc: Global, values: &Values, now: u64, pattern: &[u8]) -> Result<Reply, Memory>
+    ensures { IfOk result (λ reply. keys_in reply
+        ≡ names_there now (parts_of pattern.now) values.now.entries) }
+{
+    let parts = read_parts(alloc, pattern)?;
+    Ok(Reply::Keys(list_parts(alloc, values, now, parts.as_slice())?))
+}
+
 /// All keys of a cell are asked.
 fn serve_all(values: &mut Values, now: u64, sweep: Sweep) -> Reply
     ensures { IsSwept now sweep values.old values.new result }
@@ -175,6 +224,7 @@ fn serve_request(
     match request {
         Request::Of(key, action) => serve_key(alloc, values, now, key, action),
         Request::All(sweep) => Ok(serve_all(values, now, sweep)),
+        Request::List(pattern) => list_there(alloc, values, now, pattern.as_slice()),
     }
 }
 

@@ -32,6 +32,7 @@ pub enum Verb {
     MGet,
     MSet,
     DbSize,
+    Keys,
     FlushAll,
     Info,
     ShutDown,
@@ -40,7 +41,7 @@ pub enum Verb {
 }
 
 /// All commands.
-const VERBS: [Verb; 31] = [
+const VERBS: [Verb; 32] = [
     Verb::Ping,
     Verb::Echo,
     Verb::Get,
@@ -67,6 +68,7 @@ const VERBS: [Verb; 31] = [
     Verb::MGet,
     Verb::MSet,
     Verb::DbSize,
+    Verb::Keys,
     Verb::FlushAll,
     Verb::Info,
     Verb::ShutDown,
@@ -113,6 +115,7 @@ impl Verb {
             Verb::MGet => b"mget",
             Verb::MSet => b"mset",
             Verb::DbSize => b"dbsize",
+            Verb::Keys => b"keys",
             Verb::FlushAll => b"flushall",
             Verb::Info => b"info",
             Verb::ShutDown => b"shutdown",

@@ -22,12 +22,18 @@ fn words_of(alloc: Global, line: &str) -> Result<Vec<String>, AllocError> {
     Ok(words)
 }
 
+/// What a link gives whose client sends these bytes.
+fn items_of(alloc: Global, bytes: &[u8]) -> Result<Vec<LinkItem>, AllocError> {
+    let mut items = Vec::new(alloc);
+    items.push(LinkItem::Bytes(bytes.to_vec(alloc)?))?;
+    Ok(items)
+}
+
 /// A link whose client sends these bytes.
 fn asking(alloc: Global, bytes: &[u8]) -> Result<MemLink, AllocError>
     ensures { IfOk result IsInitialMemLink }
 {
-    let bytes = bytes.to_vec(alloc)?;
-    let items = vec![in alloc; LinkItem::Bytes(bytes)]?;
+    let items = items_of(alloc, bytes)?;
     Ok(MemLink::new(alloc, items, None, None, Vec::new(alloc)))
 }
 

@@ -3,12 +3,11 @@
 use httpdate::HttpDate;
 use mely_log::Log;
 use std::alloc::AllocError;
-use std::net::IpAddr;
 use std::sync::Wait;
 use sws_access::{Clerk, Record, Visit, push_combined};
 use sws_link::{Put, SureSink};
 use sws_log::{LogLine, write_log};
-use sws_net::TcpLink;
+use sws_net::{Client, TcpLink};
 use sws_outbox::Outbox;
 use sws_shelf::time_of;
 use swsd_words::LogFormat;
@@ -29,10 +28,9 @@ pub struct LogDesk<'d, T> {
 pub struct LineClerk<'d, T> {
     desk: LogDesk<'d, T>,
 
-    /// The number of the connection in its generation, and the address of its client, where these
-    /// are known.
+    /// The number of the connection in its generation, and its client, where these are known.
     number: u16,
-    peer: Option<IpAddr>,
+    client: Option<Client>,
 
     /// The lines that it was told, for contracts alone.
     told: Log<LogLine>,
@@ -54,8 +52,12 @@ impl<'d, T: Wait> LineClerk<'d, T> {
     /// The line in the combined format.
     fn combined(&self, line: &LogLine, record: &Record) -> Result<Vec<u8>, AllocError> {
         let alloc = self.desk.outbox.alloc();
-        let address = match self.peer {
-            Some(peer) => format!(in alloc; "{peer}")?,
+        let client = match &self.client {
+            Some(client) => client.address(),
+            None => None,
+        };
+        let address = match client {
+            Some(address) => format!(in alloc; "{}", address.to_canonical())?,
             None => String::from_str(alloc, "-")?,
         };
         let origin = record.origin();
@@ -110,17 +112,14 @@ impl<'d, T: Wait> Clerk<TcpLink> for LineClerk<'d, T> {
         LineClerk {
             desk,
             number: 0,
-            peer: None,
+            client: None,
             told: Log::new(),
         }
     }
 
     fn meet(&mut self, link: &TcpLink) {
         self.number = link.number().unwrap_or(0);
-        self.peer = match link.peer() {
-            Some(peer) => Some(peer.ip().to_canonical()),
-            None => None,
-        };
+        self.client = Some(link.client());
         self.told = Log::new();
     }
 

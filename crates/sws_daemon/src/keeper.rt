@@ -6,6 +6,7 @@ ghost use Rattle.sws_daemon.specs.Causes.{status_by};
 use crate::cause::{Cause, cause_of};
 use crate::saying::{GenerationLine, Voice};
 use std::alloc::AllocError;
+use std::net::IpAddr;
 use std::rt::Clock;
 use std::sync::atomic::{AtomicBool, AtomicU64, Ordering};
 use std::sync::{Arc, Wait};
@@ -60,11 +61,19 @@ pub struct Common {
 
     /// Who counts the connections of each address, where one may have so many alone.
     guests: Option<Arc<Guests>>,
+
+    /// From which addresses connections begin with a header of the PROXY protocol.
+    proxies: Vec<IpAddr>,
 }
 
 impl Common {
     /// Of so many lanes, of which so many may be behind the door, before the first generation.
-    pub fn new(lanes: u16, accepting: u16, guests: Option<Arc<Guests>>) -> Common {
+    pub fn new(
+        lanes: u16,
+        accepting: u16,
+        guests: Option<Arc<Guests>>,
+        proxies: Vec<IpAddr>,
+    ) -> Common {
         Common {
             count: AtomicU64::new(0),
             waiting: AtomicU64::new(0),
@@ -74,7 +83,13 @@ impl Common {
             has_served: AtomicBool::new(false),
             fault: AtomicU64::new(NO_FAULT),
             guests,
+            proxies,
         }
+    }
+
+    /// From which addresses connections begin with a header of the PROXY protocol.
+    pub fn proxies(&self) -> &[IpAddr] {
+        &self.proxies
     }
 
     /// Who counts the connections of each address, where one may have so many alone.
@@ -196,8 +211,8 @@ impl<'d, T: Wait + Clock> LaneKeeper<'d, T> {
             if !self.rest() {
                 return None;
             }
-            let guests = self.common.guests();
-            match LaneWorld::of_requests(self.rt, self.entrance, self.lane, guests) {
+            let (guests, proxies) = (self.common.guests(), self.common.proxies());
+            match LaneWorld::of_requests(self.rt, self.entrance, self.lane, guests, proxies) {
                 Ok(world) => return Some(world),
                 Err(_) => self.fail(Cause::Opening),
             }

@@ -96,6 +96,7 @@ fn refuse(rt: &HostRuntime, fault: &WordsFault) -> u8 {
         WordsFault::Listen(_)
         | WordsFault::ManyAddresses(_)
         | WordsFault::Front(_)
+        | WordsFault::Proxy(_)
         | WordsFault::HeaderParts(_)
         | WordsFault::Header(_, _)
         | WordsFault::AgeParts(_)

@@ -10,7 +10,7 @@ use crate::saying::Voice;
 use crate::watching::{Curfew, Watch};
 use mely_history::Shape;
 use std::alloc::AllocError;
-use std::net::{SocketAddr, TcpListener};
+use std::net::{IpAddr, SocketAddr, TcpListener};
 use std::rt::Clock;
 use std::sync::{Arc, Wait};
 use std::thread::{self, Threads};
@@ -227,6 +227,7 @@ struct Plan {
     reload: Option<ReloadFile>,
     look: u64,
     stops_unlogged: bool,
+    proxies: Vec<IpAddr>,
 }
 
 impl Plan {
@@ -249,6 +250,7 @@ impl Plan {
             reload,
             look: order.look,
             stops_unlogged: order.log_fault == LogFault::Stop,
+            proxies: order.proxies,
         }
     }
 }
@@ -307,8 +309,9 @@ impl House {
             reload,
             look,
             stops_unlogged,
+            proxies,
         } = Plan::of(rt, order);
-        let common = Common::new(lanes, accepting, guests);
+        let common = Common::new(lanes, accepting, guests, proxies);
         let Premises { shelf, door } = Premises::open(rt, origin, lanes, accepting, voice)?;
         Ok(House {
             shelf,
@@ -348,7 +351,7 @@ fn lane_of<'d, T: Wait + Clock>(
 ) -> Result<Lane<LaneWorld<'d>, LaneKeeper<'d, T>>, AllocError> {
     let (shelf, common) = (&house.shelf, &house.common);
     let keeper = LaneKeeper::new(rt, threads, entrance, number, shelf, voice.again(), common)?;
-    let world = LaneWorld::of_requests(rt, entrance, number, common.guests())?;
+    let world = LaneWorld::of_requests(rt, entrance, number, common.guests(), common.proxies())?;
     Ok(Lane::new(world, keeper))
 }
 

@@ -70,7 +70,7 @@ fn let_out(here: &mut Vec<u128>, address: u128) {
 }
 
 /// An address as a number.
-fn number_of(address: IpAddr) -> u128 {
+pub fn number_of(address: IpAddr) -> u128 {
     match address {
         IpAddr::V4(v4) => v4.to_ipv6_mapped().to_bits(),
         IpAddr::V6(v6) => v6.to_bits(),

@@ -14,7 +14,7 @@ use crate::tcp_link::TcpLink;
 use mio::net;
 use std::alloc::AllocError;
 use std::io;
-use std::net::TcpListener;
+use std::net::{IpAddr, TcpListener};
 use std::sync::Arc;
 use sws_link::{Accepted, Opened, Polled, World};
 
@@ -113,6 +113,9 @@ struct Stay<'d> {
 
     /// Who counts the connections of each address, where somebody does.
     guests: Option<&'d Arc<Guests>>,
+
+    /// Whose connections begin with a header of the PROXY protocol.
+    proxies: &'d [IpAddr],
 }
 
 /// What is behind the door of a lane.
@@ -193,8 +196,8 @@ impl<'d> Stay<'d> {
     }
 
     /// How long the machine may be waited for: not at all where nobody is left.
-    fn patience(&self, server: &Server, accepted: u16) -> u64 {
-        if self.left.is_some() && server.there(accepted) == 0 {
+    fn patience(&self, server: &Server) -> u64 {
+        if self.left.is_some() && server.there() == 0 {
             return 0;
         }
         TICK
@@ -250,7 +253,6 @@ impl<'d> Stay<'d> {
         &mut self,
         server: &mut Server,
         waiting: &[u16],
-        accepted: u16,
         is_last: bool,
     ) -> io::Result<Option<u16>>
         ensures { IfOk result (λ named. IfSome named (λ conn. Contains waiting.now conn)) }
@@ -261,8 +263,8 @@ impl<'d> Stay<'d> {
         if let Some(left) = self.left {
             self.cut_some(server, left);
         }
-        let most = self.patience(server, accepted);
-        server.look(self.rt, waiting, accepted, self.left.is_some(), most)
+        let most = self.patience(server);
+        server.look(self.rt, waiting, self.left.is_some(), most)
     }
 
     /// The next connection, as the link of this number, of so many in all.
@@ -273,12 +275,12 @@ impl<'d> Stay<'d> {
             self.leave(server);
         }
         if self.left.is_some() {
-            if server.there(number) == 0 {
+            if server.there() == 0 {
                 return Came::Failed;
             }
             return Came::NotYet;
         }
-        match server.next(number, self.guests) {
+        match server.next(number, self.guests, self.proxies) {
             Came::Link(link) => {
                 if number.saturating_add(1) >= total {
                     self.leave(server);
@@ -299,18 +301,20 @@ impl<'d> LaneWorld<'d> {
         entrance: Entrance<'d>,
         lane: usize,
     ) -> Result<LaneWorld<'d>, AllocError> {
-        LaneWorld::behind(rt, entrance, lane, false, None)
+        LaneWorld::behind(rt, entrance, lane, false, None, &[])
     }
 
     /// The same, of connections that bring requests, each of which ends with an empty line and is
-    /// answered. Where the connections of an address are counted, this says of how many.
+    /// answered. Where the connections of an address are counted, this says of how many; those from
+    /// these proxies begin with a header of the PROXY protocol, and count as their clients'.
     pub fn of_requests(
         rt: &'d HostRuntime,
         entrance: Entrance<'d>,
         lane: usize,
         guests: Option<&'d Arc<Guests>>,
+        proxies: &'d [IpAddr],
     ) -> Result<LaneWorld<'d>, AllocError> {
-        LaneWorld::behind(rt, entrance, lane, true, guests)
+        LaneWorld::behind(rt, entrance, lane, true, guests, proxies)
     }
 
     /// A world of this lane.
@@ -320,6 +324,7 @@ impl<'d> LaneWorld<'d> {
         lane: usize,
         has_requests: bool,
         guests: Option<&'d Arc<Guests>>,
+        proxies: &'d [IpAddr],
     ) -> Result<LaneWorld<'d>, AllocError> {
         let behind = Behind {
             stay: Stay {
@@ -333,6 +338,7 @@ impl<'d> LaneWorld<'d> {
                 ended: 0,
                 has_requests,
                 guests,
+                proxies,
             },
             server: None,
         };
@@ -356,7 +362,7 @@ impl<'d> Origin for Behind<'d> {
     fn look(&mut self, waiting: &[u16], accepted: u16, total: u16) -> io::Result<Option<u16>> {
         match &mut self.server {
             None => Ok(None),
-            Some(server) => self.stay.look(server, waiting, accepted, accepted >= total),
+            Some(server) => self.stay.look(server, waiting, accepted >= total),
         }
     }
 

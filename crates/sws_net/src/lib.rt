@@ -11,7 +11,8 @@
 //! | [`TcpLink`] | a link | a socket, by a [`KeptLink`] |
 //!
 //! What is shared beside the sockets: [`Guests`] counts the connections of each address, and a
-//! [`StopFile`] tells all to stop.
+//! [`StopFile`] tells all to stop. A link's [`Client`] is whoever connected, or whom a proxy names in
+//! the header of the PROXY protocol that its connections begin with.
 //!
 //! What a link keeps back of a response is proved over any [`Socket`] that tells what it carries,
 //! as [`MemSocket`] does: [`KeptLink`] meets the clauses of every link on contents too.
@@ -43,6 +44,7 @@ mod listeners;
 mod lobby;
 mod mem_socket;
 mod places;
+mod preface;
 mod progress;
 mod server;
 mod signs;
@@ -59,6 +61,7 @@ pub use lane_world::{Entrance, LaneWorld};
 pub use listener::{listen, other_address};
 pub use mem_socket::MemSocket;
 pub use places::LISTENERS;
+pub use preface::Client;
 pub use socket::Socket;
 pub use stop_file::StopFile;
 pub use tcp_link::TcpLink;

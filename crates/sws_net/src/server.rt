@@ -8,6 +8,7 @@ use crate::guests::{Guest, Guests};
 use crate::listeners::Listeners;
 use crate::lobby::{Lobby, Way};
 use crate::places::{LISTENERS, register};
+use crate::preface::{Preface, is_proxy};
 use crate::progress::Progress;
 use crate::signs::Signs;
 use crate::tcp_link::TcpLink;
@@ -178,9 +179,9 @@ impl Server {
         self.progress.cut_idle(&self.lobby, self.now, longest)
     }
 
-    /// How many of so many links that were accepted are still there.
-    pub fn there(&self, accepted: u16) -> u64 {
-        u64::from(accepted).saturating_sub(self.lobby.gone())
+    /// How many links are there. One that couldn't be set up isn't.
+    pub fn there(&self) -> u64 {
+        self.lobby.there()
     }
 
     /// The time of the last wait, in milliseconds.
@@ -196,7 +197,6 @@ impl Server {
         &mut self,
         rt: &HostRuntime,
         waiting: &[u16],
-        accepted: u16,
         is_last: bool,
         most: u64,
     ) -> io::Result<Option<u16>>
@@ -211,7 +211,7 @@ impl Server {
         if !is_last && self.listeners.may_accept() {
             return Ok(None);
         }
-        let all_wait = waiting.len() as u64 >= self.there(accepted);
+        let all_wait = waiting.len() as u64 >= self.there();
         if !all_wait && self.passed < PASSED {
             self.passed += 1;
             return Ok(None);
@@ -334,20 +334,40 @@ impl Server {
     }
 
     /// The next connection, as the link of this number. One that can't be set up is
-    /// closed and isn't counted, and so is one that isn't let in.
-    pub fn next(&mut self, number: u16, guests: Option<&Arc<Guests>>) -> Came
+    /// closed and isn't counted, and so is one that isn't let in. Those of proxies begin with a header,
+    /// and their clients are let in by that.
+    pub fn next(&mut self, number: u16, guests: Option<&Arc<Guests>>, proxies: &[IpAddr]) -> Came
         ensures { IsInitialIfCame result }
     {
         match self.listeners.accept() {
             None => Came::NotYet,
-            Some(Ok((stream, from))) => match guests {
-                None => self.admit(stream, number, None),
-                Some(guests) => match Guest::of(guests, from.ip()) {
-                    Some(guest) => self.admit(stream, number, Some(guest)),
-                    None => Came::NotYet,
-                },
-            },
+            Some(Ok((stream, from))) if is_proxy(proxies, from.ip()) => {
+                match Preface::new(self.alloc, from.ip(), guests) {
+                    Ok(preface) => self.admit(stream, number, None, Some(preface)),
+                    Err(_) => Came::NotYet,
+                }
+            }
+            Some(Ok((stream, from))) => self.let_in(stream, from.ip(), number, guests),
             Some(Err(error)) => self.none_came(&error),
+        }
+    }
+
+    /// A connection from this address, where one more of it may come in.
+    fn let_in(
+        &mut self,
+        stream: TcpStream,
+        from: IpAddr,
+        number: u16,
+        guests: Option<&Arc<Guests>>,
+    ) -> Came
+        ensures { IsInitialIfCame result }
+    {
+        let Some(guests) = guests else {
+            return self.admit(stream, number, None, None);
+        };
+        match Guest::of(guests, from) {
+            Some(guest) => self.admit(stream, number, Some(guest), None),
+            None => Came::NotYet,
         }
     }
 
@@ -371,10 +391,16 @@ impl Server {
     }
 
     /// A connection that was let in, where it can be set up.
-    fn admit(&mut self, stream: TcpStream, number: u16, guest: Option<Guest>) -> Came
+    fn admit(
+        &mut self,
+        stream: TcpStream,
+        number: u16,
+        guest: Option<Guest>,
+        preface: Option<Preface>,
+    ) -> Came
         ensures { IsInitialIfCame result }
     {
-        match self.link_of(stream, number, guest) {
+        match self.link_of(stream, number, guest, preface) {
             Ok(link) => Came::Link(link),
             Err(_) => Came::NotYet,
         }
@@ -386,6 +412,7 @@ impl Server {
         mut stream: TcpStream,
         number: u16,
         guest: Option<Guest>,
+        preface: Option<Preface>,
     ) -> io::Result<TcpLink>
         ensures { IfOk result (λ link. IsInitialTcpLink link) }
     {
@@ -393,6 +420,6 @@ impl Server {
         let presence = self.lobby.enter(number, guest)?;
         register(self.poll.registry(), &mut stream, number as usize)?;
         self.signs.begin(number as usize, self.now);
-        TcpLink::new(self.alloc, stream, presence, self.holds)
+        TcpLink::new(self.alloc, stream, presence, preface, self.holds)
     }
 }

@@ -1,5 +1,6 @@
 //! Which links have shown a sign of life.
 ghost use Rattle.std.specs.Prelude.{◌≤◌, IfOk, IfSome, Contains};
+ghost use Rattle.std.specs.Bool.{OnTrue};
 ghost use Rattle.sws_net.specs.Invariant.{silence};
 
 use crate::lobby::{Lobby, Way};
@@ -48,6 +49,20 @@ impl Sign {
     }
 }
 
+/// Whether the link is one of those that wait. It is looked for from both ends at once: links are
+/// named in the order in which they began to wait, and those that stay idle stay in front.
+fn is_among(waiting: &[u16], conn: u16) -> bool
+    ensures { OnTrue result (Contains waiting.now conn) }
+{
+    let len = waiting.len();
+    for front in 0..len.div_ceil(2) {
+        if waiting[front] == conn || waiting[len - 1 - front] == conn {
+            return true;
+        }
+    }
+    false
+}
+
 /// What is known of each link, by number.
 ///
 /// A link that waits to write isn't ready because something has come, nor one that waits to read
@@ -60,7 +75,7 @@ pub struct Signs {
     signs: Vec<Sign>,
 
     /// The links that have shown that there is something to read, in the order in which they did,
-    /// each once. There is room for all.
+    /// each once. One that is gone leaves them when it is next looked at. There is room for all.
     readable: VecDeque<u16>,
 
     /// Before this time no link that waited when it was reckoned is due, in milliseconds.
@@ -122,15 +137,24 @@ impl Signs {
         for _ in 0..self.readable.len() {
             let conn = self.readable.pop_front()?;
             let link = conn as usize;
-            if lobby.way(link) == Way::Reading && waiting.contains(&conn) {
-                if let Some(sign) = self.signs.get_mut(link) {
-                    sign.take(Way::Reading);
-                }
+            if lobby.way(link) == Way::Reading && is_among(waiting, conn) {
+                self.forget(link);
                 return Some(conn);
             }
-            let _ = self.readable.push_back(conn);
+            if lobby.is_there(link) {
+                let _ = self.readable.push_back(conn);
+            } else {
+                self.forget(link);
+            }
         }
         None
+    }
+
+    /// It isn't known any more that there is something to read of the link.
+    fn forget(&mut self, link: usize) {
+        if let Some(sign) = self.signs.get_mut(link) {
+            sign.take(Way::Reading);
+        }
     }
 
     /// The first of those that wait to write which showed that it can.

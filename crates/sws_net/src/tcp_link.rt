@@ -5,11 +5,11 @@ ghost use Rattle.sws_net.specs.Initial.{IsInitialTcpLink};
 
 use crate::kept_link::KeptLink;
 use crate::lobby::Presence;
+use crate::preface::{Client, Preface};
 use crate::tcp_socket::TcpSocket;
 use mio::net::TcpStream;
 use std::alloc::Global;
 use std::io;
-use std::net::SocketAddr;
 use sws_link::{Link, LinkRead, LinkWrite};
 
 /// A link over a socket of the machine, of whose bytes nothing is known; it counts the machine's
@@ -23,24 +23,26 @@ pub struct TcpLink {
 }
 
 impl TcpLink {
-    /// A link over a socket that doesn't block, which holds answers or doesn't.
+    /// A link over a socket that doesn't block, which holds answers or doesn't, and begins with a header
+    /// or doesn't.
     pub(crate) fn new(
         alloc: Global,
         stream: TcpStream,
         presence: Presence,
+        preface: Option<Preface>,
         holds: bool,
     ) -> io::Result<TcpLink>
         ensures { IfOk result (λ link. IsInitialTcpLink link) }
     {
-        let link = KeptLink::new(alloc, TcpSocket::new(stream, presence), holds);
+        let link = KeptLink::new(alloc, TcpSocket::new(stream, presence, preface), holds);
         Ok(TcpLink {
             kept: Box::new(alloc, link)?,
         })
     }
 
-    /// The address of the peer, where the machine knows it and the link wasn't shut.
-    pub fn peer(&self) -> Option<SocketAddr> {
-        self.kept.socket().peer()
+    /// Who is at the other end, unless the link was shut.
+    pub fn client(&self) -> Client {
+        self.kept.socket().client()
     }
 
     /// The number of the link among those that its world has given since it was opened, from 0,

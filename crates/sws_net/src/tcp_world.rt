@@ -57,14 +57,14 @@ impl<'r> Origin for Listening<'r> {
         let is_last = accepted >= total;
         match &mut self.server {
             None => Ok(None),
-            Some(server) => server.look(self.rt, waiting, accepted, is_last, u64::MAX),
+            Some(server) => server.look(self.rt, waiting, is_last, u64::MAX),
         }
     }
 
     fn next(&mut self, number: u16, _total: u16) -> Came {
         match &mut self.server {
             None => Came::NotYet,
-            Some(server) => server.next(number, None),
+            Some(server) => server.next(number, None, &[]),
         }
     }
 }

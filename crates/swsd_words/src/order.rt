@@ -1,6 +1,6 @@
 //! The words of `swsd`.
 use crate::additions::{additions_of, with_additions};
-use crate::guests::{fronts_of, with_guests};
+use crate::guests::{fronts_of, proxies_of, with_guests};
 use clap::{Arg, ArgAction, ArgMatches, Command, Error, value_parser};
 use std::alloc::{AllocError, Global};
 use std::fmt;
@@ -73,6 +73,9 @@ pub struct Order {
     pub per_address: Option<u32>,
     pub fronts: Vec<IpAddr>,
 
+    /// From which addresses connections begin with a header of the PROXY protocol.
+    pub proxies: Vec<IpAddr>,
+
     /// How many requests of a connection are answered, 1 to 65,535.
     pub answers: u16,
 
@@ -133,6 +136,9 @@ pub enum WordsFault {
     /// The word of `--front` is no address.
     Front(String),
 
+    /// The word of `--proxy` is no address.
+    Proxy(String),
+
     /// The word of `--header` is no name with a value behind a colon and a space.
     HeaderParts(String),
 
@@ -185,6 +191,10 @@ impl fmt::Display for WordsFault {
             WordsFault::Front(word) => write!(
                 f,
                 "error: invalid value '{word}' for '--front <ADDRESS>': expected an address, as 127.0.0.1 or ::1\n"
+            ),
+            WordsFault::Proxy(word) => write!(
+                f,
+                "error: invalid value '{word}' for '--proxy <ADDRESS>': expected an address, as 127.0.0.1 or ::1\n"
             ),
             WordsFault::HeaderParts(word) => write!(
                 f,
@@ -525,6 +535,7 @@ fn order_of(
         connections: matches.get_one::<u16>("connections").unwrap_or(1024),
         per_address: matches.get_one::<u32>("per-address"),
         fronts: fronts_of(alloc, matches)?,
+        proxies: proxies_of(alloc, matches)?,
         answers: matches.get_one::<u16>("answers").unwrap_or(1000),
         input: matches.get_one::<u32>("input").unwrap_or(4_194_304),
         max_files: matches.get_one::<u32>("files").unwrap_or(65_536),

@@ -7,6 +7,7 @@ ghost use Rattle.test_fleet.specs.Callers.{AreCallers, IsRow};
 
 mod calls;
 mod crowd;
+mod pages;
 mod sowing;
 mod stress;
 mod wanting;

@@ -1,2 +1,1 @@
 pub mod ShardExamples
-pub mod Examples

@@ -5,6 +5,3 @@ mod locks;
 mod queues;
 mod shards;
 mod stealing;
-mod sums;
-mod weaves;
-mod workers;

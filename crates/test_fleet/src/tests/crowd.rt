@@ -346,33 +346,8 @@ fn act_out<R: Threads + Wait + Sync>(
 /// that all is quiet, and how many posts were refused.
 type Ran = (bool, u64, u64);
 
-/// Lets callers of a new fleet act, one stage after another, and closes the fleet.
-pub(super) fn run_stages<R: Threads + Wait + Sync>(
-    rt: &R,
-    alloc: Global,
-    setup: &Setup,
-    colours: u16,
-    outsiders: u16,
-    run: &Run,
-    stages: &[Stage],
-) -> Result<(Weave<Tally, u8>, Ran), Memory>
-    requires colours { colours_of setup.now ≡ colours }
-    requires app { run.now.app.colours ≡ colours }
-    requires row { IsRow (shape_of setup.now).cores colours setup.now }
-    requires few { (shape_of setup.now).cores + outsiders ≤ 65535 }
-    ensures free { IfOk result (λ left.
-        AtEach (λ core w. IsTrue (is_free w.phase)) left.0.workers) }
-    ensures setup { IfOk result (λ left. left.0.setup ≡ setup.now) }
-{
-    let mut opened = open_fleet(alloc, setup, colours, outsiders)?;
-    let is_right = act_out(rt, setup, &mut opened, run, stages);
-    let weave = close_fleet(alloc, setup, opened)?;
-    let quiet = run.quiet.load(Ordering::SeqCst);
-    let refused = run.refused.load(Ordering::SeqCst);
-    Ok((weave, (is_right, quiet, refused)))
-}
-
-/// The same, where what is left is run behind the workers: what that came to, and what is left then.
+/// Lets callers of a new fleet act, one stage after another, closes the fleet, and runs what is left
+/// behind the workers: what is left then, what came of the run, and of the rest.
 fn run_out<R: Threads + Wait + Sync>(
     rt: &R,
     alloc: Global,
@@ -387,9 +362,13 @@ fn run_out<R: Threads + Wait + Sync>(
     requires row { IsRow (shape_of setup.now).cores colours setup.now }
     requires few { (shape_of setup.now).cores + outsiders ≤ 65535 }
 {
-    let (mut weave, ran) = run_stages(rt, alloc, setup, colours, outsiders, run, stages)?;
+    let mut opened = open_fleet(alloc, setup, colours, outsiders)?;
+    let is_right = act_out(rt, setup, &mut opened, run, stages);
+    let mut weave = close_fleet(alloc, setup, opened)?;
     let drained = weave.drain(rt, &run.app);
-    Ok((weave.into_parts(), ran, drained))
+    let quiet = run.quiet.load(Ordering::SeqCst);
+    let refused = run.refused.load(Ordering::SeqCst);
+    Ok((weave.into_parts(), (is_right, quiet, refused), drained))
 }
 
 /// Whether no event waits on any colour.
@@ -434,54 +413,53 @@ fn drew(states: &[Tally], draws: &[u64]) -> bool {
     states.len() == draws.len()
 }
 
-/// An outsider posts, and two workers run it.
-static POSTED: [Stage; 2] = [(Who::Others, Some(0)), (Who::Cores, Some(20))];
-
-/// Whether two workers run what one outsider posted.
-fn two_run_it<R: Threads + Wait + Sync>(rt: &R, alloc: Global) -> Result<bool, Memory> {
+/// Whether one outsider's thirty posts on three colours, or on those that aren't skipped, are run by
+/// two workers in these stages, of which so many end where all is quiet, and by whoever drains what
+/// they leave: so many in all, and so many on each colour.
+pub(super) fn are_run<R: Threads + Wait + Sync>(
+    rt: &R,
+    alloc: Global,
+    steal_cost: u32,
+    skipped: Option<u16>,
+    stages: &[Stage],
+    quiet: u64,
+    draws: &[u64],
+) -> Result<bool, Memory> {
     let shape = Shape {
         cores: 2,
         shards: 1,
         batch: 1,
-        steal_cost: 5,
+        steal_cost,
         group: 2,
     };
     let setup = setup_of(&shape, 3, 10)?;
-    let run = Run::new(3, 30, 0, Some(1));
-    let (weave, ran) = run_stages(rt, alloc, &setup, 3, 1, &run, &POSTED)?;
-    let parts = weave.into_parts();
-    Ok(ran == (true, 2, 0) && none_waits(&parts.queued) && drew(&parts.states, &[10, 0, 10]))
+    let run = Run::new(3, 30, 0, skipped);
+    let (parts, ran, drained) = run_out(rt, alloc, &setup, 3, 1, &run, stages)?;
+    Ok(
+        ran == (true, quiet, 0)
+            && drained == Drained::Empty
+            && drew(&parts.states, draws)
+            && run.app.ran.load(Ordering::SeqCst) == drawn(&parts.states),
+    )
 }
+
+/// An outsider posts, and two workers run it.
+static POSTED: [Stage; 2] = [(Who::Others, Some(0)), (Who::Cores, Some(20))];
 
 #[test]
 fn two_workers_run_what_one_outsider_posted(rt: HostRuntime) {
-    assert!(rt; two_run_it(&rt, rt.alloc()) == Ok(true));
+    let are_so = are_run(&rt, rt.alloc(), 5, Some(1), &POSTED, 2, &[10, 0, 10]);
+    assert!(rt; are_so == Ok(true));
 }
 
 /// An outsider posts, and the worker of the first core alone works.
 static ALONE: [Stage; 2] = [(Who::Others, Some(0)), (Who::FirstCore, Some(20))];
 
-/// Whether a worker whose fellow never begins gives up, and nothing is lost.
-fn gives_up<R: Threads + Wait + Sync>(rt: &R, alloc: Global) -> Result<bool, Memory> {
-    let shape = Shape {
-        cores: 2,
-        shards: 1,
-        batch: 1,
-        steal_cost: 1_000_000,
-        group: 2,
-    };
-    let setup = setup_of(&shape, 3, 10)?;
-    let run = Run::new(3, 30, 0, None);
-    let (parts, ran, drained) = run_out(rt, alloc, &setup, 3, 1, &run, &ALONE)?;
-    drop(parts);
-    let count = run.app.ran.load(Ordering::SeqCst);
-    Ok(ran == (true, 0, 0) && drained == Drained::Empty && count == 30)
-}
-
 /// A machine that refuses a thread leaves a fleet like this.
 #[test]
 fn a_worker_whose_fellow_never_begins_gives_up_and_nothing_is_lost(rt: HostRuntime) {
-    assert!(rt; gives_up(&rt, rt.alloc()) == Ok(true));
+    let are_so = are_run(&rt, rt.alloc(), 1_000_000, None, &ALONE, 0, &[10, 10, 10]);
+    assert!(rt; are_so == Ok(true));
 }
 
 /// How many events the histories of a run have registered and finished, where each of them is legal.

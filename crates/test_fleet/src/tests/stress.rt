@@ -3,10 +3,7 @@ ghost use Rattle.std.specs.Prelude.{◌≡◌, IfOk};
 ghost use Rattle.mely_history.specs.Setup.{shape_of, colours_of};
 ghost use Rattle.test_fleet.specs.Callers.{IsOpen, IsRow};
 
-use super::crowd::{
-    Opened, Run, Stage, Who, act_in, close_fleet, none_waits, open_fleet, run_stages,
-};
-use super::setup_of;
+use super::crowd::{Opened, Run, Stage, Who, act_in, are_run, close_fleet, none_waits, open_fleet};
 use example_counting::Tally;
 use mely_event::{Fits, Handlers, Kept, Memory, Trail};
 use mely_history::{Setup, Shape};
@@ -119,23 +116,8 @@ static GAVE_UP: [Stage; 3] = [
     (Who::Cores, Some(30)),
 ];
 
-/// Whether a worker that gave up works on once its fellow does.
-fn works_on<R: Threads + Wait + Sync>(rt: &R, alloc: Global) -> Result<bool, Memory> {
-    let shape = Shape {
-        cores: 2,
-        shards: 1,
-        batch: 1,
-        steal_cost: 1_000_000,
-        group: 2,
-    };
-    let setup = setup_of(&shape, 3, 10)?;
-    let run = Run::new(3, 30, 0, None);
-    let (weave, ran) = run_stages(rt, alloc, &setup, 3, 1, &run, &GAVE_UP)?;
-    drop(weave.into_parts());
-    Ok(ran == (true, 2, 0))
-}
-
 #[test]
 fn a_worker_that_gave_up_works_on_once_its_fellow_does(rt: HostRuntime) {
-    assert!(rt; works_on(&rt, rt.alloc()) == Ok(true));
+    let are_so = are_run(&rt, rt.alloc(), 1_000_000, None, &GAVE_UP, 2, &[10, 10, 10]);
+    assert!(rt; are_so == Ok(true));
 }

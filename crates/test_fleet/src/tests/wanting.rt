@@ -21,7 +21,7 @@ const C0: Colour = Colour(0);
 const C1: Colour = Colour(1);
 
 /// An event that sows so many.
-fn sowing(count: u16) -> Event
+pub(super) fn sowing(count: u16) -> Event
     ensures { result.handler ≡ 0 }
 {
     Event {
@@ -31,7 +31,7 @@ fn sowing(count: u16) -> Event
 }
 
 /// Two cores and two colours, batches of 1, and one handler of weight 10. The histories are listed.
-fn pair(shards: u16, steal_cost: u32) -> Result<Setup, Memory>
+pub(super) fn pair(shards: u16, steal_cost: u32) -> Result<Setup, Memory>
     ensures { IfOk result (IsRow 2 2) }
 {
     let shape = Shape {
@@ -44,6 +44,14 @@ fn pair(shards: u16, steal_cost: u32) -> Result<Setup, Memory>
     listed_setup_of(&shape, 2, 10)
 }
 
+/// The event that an entry registers on a colour.
+fn registered_by(entry: &Entry, sought: Colour) -> Option<Event> {
+    match entry {
+        Entry::Reg { colour, event, .. } if *colour == sought => Some(*event),
+        _ => None,
+    }
+}
+
 /// The events of a colour, in the order in which they were registered in its history.
 fn registered(alloc: Global, history: &History, sought: Colour) -> Result<Vec<Event>, Memory> {
     let mut events = Vec::new(alloc);
@@ -51,16 +59,15 @@ fn registered(alloc: Global, history: &History, sought: Colour) -> Result<Vec<Ev
         return Err(Memory);
     };
     for entry in entries {
-        match entry {
-            Entry::Reg { colour, event, .. } if *colour == sought => events.push(*event)?,
-            _ => {}
+        if let Some(event) = registered_by(entry, sought) {
+            events.push(event)?;
         }
     }
     Ok(events)
 }
 
 /// Of what a run left: how many events wait on colour 1, and how many registrations were lost.
-#[derive(Clone, Copy, Debug, PartialEq, Eq)]
+#[derive(Clone, Copy)]
 struct Remains {
     waiting: usize,
     lost: usize,

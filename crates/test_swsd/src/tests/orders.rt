@@ -64,6 +64,7 @@ pub(super) fn order_of(rt: &(impl AllocGlobal + Abort), plan: &Plan) -> Order {
         connections: plan.connections,
         per_address: None,
         fronts: Vec::new(rt.alloc()),
+        proxies: Vec::new(rt.alloc()),
         answers: 1000,
         input: 4_194_304,
         max_files: 65_536,

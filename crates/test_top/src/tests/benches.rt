@@ -7,7 +7,7 @@ use std::alloc::Global;
 use std::sync::Wait;
 use std::thread::Threads;
 use sws_bench::{bench, bench_script};
-use sws_link::{Memory, SureSink};
+use sws_link::SureSink;
 use sws_replay::RunFault;
 use sws_script::{Item, ScriptConn};
 
@@ -30,32 +30,32 @@ const EIGHT_WORKERS: Shape = Shape {
 /// One request in pieces of 23 bytes.
 static PIECES: [&[u8]; 2] = [b"GET /f0.txt HTTP/1.1\r\nH", b"ost: b\r\n\r\n"];
 
-/// Whether each of these connections sends these pieces, and no others.
-fn send(conns: &[ScriptConn], pieces: &[&[u8]]) -> bool {
-    for conn in conns {
-        let mut places = pieces.iter();
-        for item in conn.items.as_slice() {
-            match (item, places.next()) {
-                (Item::Send(piece), Some(want)) if piece.bytes() == *want => {}
-                _ => return false,
-            }
-        }
-        if places.next().is_some() {
-            return false;
+/// Whether a connection sends these pieces, and no others.
+fn sends(conn: &ScriptConn, pieces: &[&[u8]]) -> bool {
+    let mut places = pieces.iter();
+    for item in conn.items.as_slice() {
+        match (item, places.next()) {
+            (Item::Send(piece), Some(want)) if piece.bytes() == *want => {}
+            _ => return false,
         }
     }
-    true
+    places.next().is_none()
 }
 
-/// How many connections the script of a bench of so many has, where each sends these pieces.
-fn connections_of(alloc: Global, count: u16, pieces: &[&[u8]]) -> Result<Option<usize>, Memory> {
-    let conns = bench_script(alloc, count, 1)?;
-    Ok(send(&conns, pieces).then_some(conns.len()))
+/// Whether the script of a bench of one connection has one, which sends these pieces.
+fn is_drawn(alloc: Global, pieces: &[&[u8]]) -> bool {
+    match bench_script(alloc, 1, 1) {
+        Ok(conns) => match conns.as_slice() {
+            [conn] => sends(conn, pieces),
+            _ => false,
+        },
+        Err(_) => false,
+    }
 }
 
 #[test]
 fn one_connection(rt: HostRuntime) {
-    assert!(rt; connections_of(rt.alloc(), 1, &PIECES) == Ok(Some(1)));
+    assert!(rt; is_drawn(rt.alloc(), &PIECES));
 }
 
 /// Whether this is written of a bench on so many workers and shards.

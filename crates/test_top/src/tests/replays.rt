@@ -3,25 +3,22 @@ ghost use Rattle.std.specs.Prelude.{◌≡◌, ◌≤◌, ◌+◌, None, length}
 ghost use Rattle.mely_history.specs.Setup.{first_out_of_range};
 ghost use Rattle.sws_script.specs.Inputs.{IsInput};
 
+use super::THREE_SHOWN;
 use super::meeting::{MeetingConn, Room};
-use mely_event::Handlers;
-use mely_history::{Setup, Shape};
+use super::replaying::site;
+use super::watched::setup_of;
+use mely_history::Shape;
 use std::process::Abort;
 use std::sync::Wait;
 use std::thread::Threads;
 use sws_conn::End;
-use sws_link::{MemSink, Sink, SureFolder, SureSink};
+use sws_link::{MemSink, Sink, SureSink};
 use sws_replay::{RunFault, replay, replay_talks, run_script};
 use sws_script::{Input, parse};
-use sws_site::Site;
 
 /// The script of three connections: a request for the first file, one for the empty file, and none.
 const THREE: &[u8] =
     b"sws-script 1\nconn\nsend GET / HTTP/1.1~Host: x~~\nconn\nsend GET /empty.css HTTP/1.1~Host: x~~\nconn\n";
-
-/// Their transcript.
-const THREE_SHOWN: &[u8] =
-    b"conn 0 done 79\n| HTTP/1.1 200 OK~\n| Server: sws~\n| Content-Type: text/html~\n| Content-Length: 3~\n| ~\n| hi\\n\nconn 1 done 75\n| HTTP/1.1 200 OK~\n| Server: sws~\n| Content-Type: text/css~\n| Content-Length: 0~\n| ~\nconn 2 done 0\n";
 
 /// Two workers, which steal what is worth more than 5.
 const TWO: Shape = Shape {
@@ -32,18 +29,15 @@ const TWO: Shape = Shape {
     group: 4,
 };
 
-/// A site of two files.
-static FILES: [(&[u8], &[u8]); 2] = [(b"index.html", b"hi\n"), (b"empty.css", b"")];
-
-fn site(rt: &(impl AllocGlobal + Abort)) -> Site {
-    let mut files = Vec::new(rt.alloc());
-    for &(name, bytes) in &FILES {
-        let name = Vec::from_slice(rt.alloc(), name).expect(rt, "memory");
-        let bytes = Vec::from_slice(rt.alloc(), bytes).expect(rt, "memory");
-        files.push((name, bytes)).expect(rt, "memory");
+/// The input of a text for so many workers.
+fn parsed(rt: &(impl AllocGlobal + Abort), text: &[u8], schedule: bool, cores: u16) -> Input
+    ensures input { IsInput schedule cores result }
+    ensures few { length result.conns ≤ 1024 }
+{
+    match parse(rt.alloc(), text, schedule, cores) {
+        Ok(input) => input,
+        Err(_) => panic!(rt; "the text spells no input"),
     }
-    let site = Site::load(rt.alloc(), &mut SureFolder::new(rt.alloc(), files), None);
-    site.ok().expect(rt, "the site is loaded")
 }
 
 /// The input of a text for a run of this shape.
@@ -52,16 +46,8 @@ fn read(rt: &(impl AllocGlobal + Abort), text: &[u8], schedule: bool, shape: &Sh
     ensures few { length result.conns ≤ 1024 }
     ensures shape { first_out_of_range shape.now (length result.conns + 2) 1 ≡ None }
 {
-    let Ok(input) = parse(rt.alloc(), text, schedule, shape.cores) else {
-        panic!(rt; "the text spells no input");
-    };
-    let Ok(handlers) = Handlers::new(&[]) else {
-        panic!(rt; "no table");
-    };
-    let colours = input.conns.as_slice().len() as u32 + 2;
-    let Ok(_) = Setup::new(shape, colours, handlers, 1) else {
-        panic!(rt; "a number of the shape is out of its range");
-    };
+    let input = parsed(rt, text, schedule, shape.cores);
+    setup_of(rt, shape, input.conns.as_slice().len() as u32 + 2);
     input
 }
 

@@ -1,0 +1,2 @@
+mod FleetLemmas
+mod ShardLemmas

@@ -1,0 +1,5 @@
+pub mod Asks
+pub mod Callers
+pub mod FleetLoops
+pub mod ShardLoops
+pub mod WeaveLoops

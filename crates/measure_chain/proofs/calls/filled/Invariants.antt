@@ -1,5 +1,0 @@
-use Rattle.std.proofs.Common.{◌≡◌}
-use Rattle.measure_chain.proofs.calls.filled.Given as goal
-
-abbrev pub invariant-marks : goal.invariant-marks
-invariant-marks l = l.queue.colours ≡ l.fn.marks

@@ -1,5 +1,0 @@
-use Rattle.std.proofs.Common.{◌≡◌}
-use Rattle.measure_chain.proofs.calls.make.Given as goal
-
-abbrev pub invariant-calls : goal.invariant-calls
-invariant-calls l = l.queue.colours ≡ l.fn.marks

@@ -1,9 +1,0 @@
-use Rattle.std.proofs.Common.{◌<◌, All}
-use Rattle.measure_shard.specs.Loops.{IsLoop}
-use Rattle.measure_shard.proofs.event_loop.run.Given as goal
-
-abbrev pub invariant-turns : goal.invariant-turns
-invariant-turns l = record {
-  is : IsLoop l.shard;
-  known : All (λ colour. colour < 1024) l.ready.items;
-}

@@ -1,7 +1,0 @@
-//! Rooms over links in memory, as tests.
-//!
-//! They stand in a crate of their own, since a crate with tests is proved twice.
-#![tactic(auto)]
-
-#[cfg(test)]
-mod tests;

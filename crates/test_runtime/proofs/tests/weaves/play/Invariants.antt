@@ -1,5 +1,0 @@
-use Rattle.std.proofs.Common.{◌≡◌}
-use Rattle.test_runtime.proofs.tests.weaves.play.Given as goal
-
-abbrev pub invariant-parts : goal.invariant-parts
-invariant-parts l = l.weave.setup ≡ l.fn.setup

@@ -1,0 +1,3 @@
+mod sums;
+mod weaves;
+mod workers;
